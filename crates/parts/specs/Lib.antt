@@ -1,3 +1,4 @@
 pub mod Limits
+pub mod Segments
 pub mod Sides
 pub mod Typed

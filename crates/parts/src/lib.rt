@@ -48,6 +48,15 @@ impl Limits {
     pub const LOOPS: u32 = 4294967295;
 
     pub const BUDGET: u32 = 1000000;
+
+    // The words of a lent state: three counts and the two words of a fourth, then its arrays.
+    pub const STATE: usize = 5
+        + Limits::CELLS
+        + Limits::ARITY * Limits::CELLS
+        + Limits::NAMES
+        + 2 * Limits::WAITING
+        + 2 * Limits::STUCK
+        + Limits::FACE;
 }
 
 // The figures of the code are those of the specs page.
