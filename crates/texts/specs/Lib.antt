@@ -1,0 +1,14 @@
+pub mod Bytes
+pub mod Terms
+pub mod Books
+pub mod Answers
+pub mod RuleText
+pub mod NetText
+pub mod Coded
+pub mod Meaning
+pub mod TableTest
+pub mod Refused
+pub mod Good
+pub mod Proofs
+pub mod Main
+pub mod Examples

@@ -1,0 +1,168 @@
+-- The theorems, in one place.
+use Prim.Native.Nat.{ℕ, _<_, _≤_}
+use mathlib.Core.Path.{_≡_}
+use mathlib.Core.Bool.{Bool, true, false}
+use mathlib.Core.Logic.{_↔_, _⊎_}
+use mathlib.Core.List.{List, _∷_}
+use mathlib.Core.Option.{some}
+use lib.ListN.{length}
+use Rattle.parts.specs.Limits.{text-max}
+use Rattle.calculus.specs.Calculus.{Closed}
+use Rattle.calculus.specs.Nets.{_≈_}
+use Rattle.model.specs.Load.{NetReads, loaded}
+use Rattle.model.specs.Sound.{Means}
+use Rattle.model.specs.Sound as Machine
+use Rattle.texts.specs.Bytes.{Word, Line, fields, numberOf, decimal}
+use Rattle.texts.specs.Terms.{Term, spell, worded}
+use Rattle.texts.specs.Books.{Agent, Rule, Book, Record, isRule, noBook, Net, wordRules, wordNet, printBook, printNet}
+use Rattle.texts.specs.Answers.{fine, fault, accepted, refused, readLines, after}
+use Rattle.texts.specs.RuleText.{Counts, Shape, headerLine, fault3, fault4, fault7, fault8, ruleLine, counted, rulesOfLines, readRules}
+use Rattle.texts.specs.NetText.{eqLine, faceLine, faceAndEqs, netOfLines, readNet, netRead}
+use Rattle.texts.specs.Coded.{Table, tableOf, template, machine, load}
+use Rattle.texts.specs.Meaning.{meantRule, meantNet}
+use Rattle.texts.specs.TableTest.{testTable}
+use Rattle.texts.specs.Refused.{First, ruleTests, eqTests, faceTests, RulesRefused, NetRefused}
+use Rattle.texts.specs.Good.{shapeFields, Fits, shapeFor, Spelt, GoodBook, GoodNet, SoundRule, SoundTable, SpeltAgents}
+use Rattle.texts.specs.Proofs.Tools.{In}
+use Rattle.texts.specs.Proofs.Reader.{termOf}
+use Rattle.texts.specs.Proofs.Spelling.{term-exact}
+use Rattle.texts.specs.Proofs.Splitting.{number-exact}
+use Rattle.texts.specs.Proofs.Scan.{want, scan, done, scan-exact}
+use Rattle.texts.specs.Proofs.RuleExact.{rule-line-exact, rules-refused}
+use Rattle.texts.specs.Proofs.RuleMeans.{rules-accepted, print-unique}
+use Rattle.texts.specs.Proofs.BookSound.{sound-table, header-compared}
+use Rattle.texts.specs.Proofs.Exact.{test-sound}
+use Rattle.texts.specs.Proofs.RuleSound.{rule-sound-exact}
+use Rattle.texts.specs.Proofs.NetExact.{face-exact, eq-exact, net-refused}
+use Rattle.texts.specs.Proofs.NetMeans.{net-accepted, net-print-unique}
+use Rattle.texts.specs.Proofs.NetRead.{net-header, net-read-refused, net-read-accepted}
+use Rattle.texts.specs.Proofs.Link.{sound-exact, book-sound, book-means, net-ready, net-closed, accepted-loads}
+use Rattle.texts.specs.Proofs.Shapes.{fault3-exact, fault4-exact}
+
+-- Spelling. A field means t exactly if t is spelt so and every head in it is an identifier.
+pub field-means : (s : List ℕ) (t : Term) → (termOf s ≡ some t) ↔ ((spell t ≡ s) × (worded t ≡ true))
+field-means = term-exact
+
+-- A number field means n exactly if n is written so in at most four digits.
+pub number-means : (s : Word) (n : ℕ) → (numberOf s ≡ some n) ↔ ((decimal n ≡ s) × (n < 10000))
+number-means = number-exact
+
+-- The flat pass over a field ends well exactly if the field spells a term, at any depth.
+pub flat-pass : (s : List ℕ) → (done (scan (want 0) s) ≡ true) ↔ ((t : Term) × (termOf s ≡ some t))
+flat-pass = scan-exact
+
+-- A line is refused with the least number whose condition holds, each condition being over the whole line.
+pub rule-line-refused : (b : Book) (l : Line) (n : ℕ) → (ruleLine b l ≡ fault n) ↔ First (ruleTests b l) n
+rule-line-refused = rule-line-exact
+
+-- The same of a `face` line.
+pub face-line-refused : (ags : List Agent) (l : Line) (n : ℕ) → (faceLine ags l ≡ fault n) ↔ First (faceTests ags l) n
+face-line-refused = face-exact
+
+-- The same of an `eq` line, after the net m.
+pub eq-line-refused : (ags : List Agent) (m : Net) (l : Line) (n : ℕ)
+    → (eqLine ags m l ≡ fault n) ↔ First (eqTests ags m l) n
+eq-line-refused = eq-exact
+
+-- Number 3: the line's fields are those of no record that may stand there.
+pub number-3 : (b : Book) (l : Line)
+    → (fault3 b l ≡ true) ↔ (¬ ((s : Shape) × (shapeFields s ≡ fields (l .bytes)) × Fits b s))
+number-3 = fault3-exact
+
+-- Number 4: they are, and no well-spelt record is written so.
+pub number-4 : (b : Book) (l : Line)
+    → (fault4 b l ≡ true)
+    ↔ ((s : Shape) × (shapeFields s ≡ fields (l .bytes)) × Fits b s × ((r : Record) → shapeFor r ≡ s → ¬ Spelt r))
+number-4 = fault4-exact
+
+-- Numbers 7 and 8: a rule has neither exactly if it meets the rule conditions of document 01.
+pub numbers-7-8 : (b : Book) (r : Rule)
+    → ((fault7 b (isRule r) ≡ false) × (fault8 b (isRule r) ≡ false)) ↔ SoundRule (b .agents) r
+numbers-7-8 = rule-sound-exact
+
+-- A text is refused with number n on line j exactly where `RulesRefused` and `NetRefused` say so.
+pub rule-text-refused : (text : List ℕ) (n j : ℕ) → (readRules text ≡ refused n j) ↔ RulesRefused text n j
+rule-text-refused = rules-refused
+
+-- The same of a net text, over the agents of a table.
+pub net-text-refused : (ags : List Agent) (text : List ℕ) (n j : ℕ)
+    → (readNet ags text ≡ refused n j) ↔ NetRefused ags text n j
+net-text-refused = net-refused
+
+-- Number 16 is given on line 0 exactly if the lent table is not sound, before all else.
+pub net-call-refused : (sound : Bool) (ags : List Agent) (text : List ℕ) (n j : ℕ)
+    → (netRead sound ags text ≡ refused n j)
+    ↔ (((sound ≡ false) × (n ≡ 16) × (j ≡ 0)) ⊎ ((sound ≡ true) × NetRefused ags text n j))
+net-call-refused = net-read-refused
+
+-- With a sound table the call reads the net text.
+pub net-call-accepted : (sound : Bool) (ags : List Agent) (text : List ℕ) (n : Net)
+    → (netRead sound ags text ≡ accepted n) ↔ ((sound ≡ true) × (readNet ags text ≡ accepted n))
+net-call-accepted = net-read-accepted
+
+-- Header counts are only compared, after all lines.
+pub rule-header : (l : Line) (ls : List Line) (c : Counts) → headerLine wordRules l ≡ fine c
+    → rulesOfLines (l ∷ ls) ≡ after (readLines ruleLine 2 noBook ls) (counted c)
+rule-header = header-compared
+
+-- The same of a net text: what is compared stands in `faceAndEqs`.
+pub net-header-read : (ags : List Agent) (l : Line) (ls : List Line) (c : Counts) → headerLine wordNet l ≡ fine c
+    → netOfLines ags (l ∷ ls) ≡ faceAndEqs ags c ls
+net-header-read = net-header
+
+-- Meaning. A text is accepted with meaning b exactly if it is b printed, b is good and the length fits.
+pub rule-text-accepted : (text : List ℕ) (b : Book)
+    → (readRules text ≡ accepted b) ↔ ((text ≡ printBook b) × GoodBook b × (length text ≤ text-max))
+rule-text-accepted = rules-accepted
+
+-- The same of a net text, over the agents of a table.
+pub net-text-accepted : (ags : List Agent) (text : List ℕ) (n : Net)
+    → (readNet ags text ≡ accepted n) ↔ ((text ≡ printNet n) × GoodNet ags n × (length text ≤ text-max))
+net-text-accepted = net-accepted
+
+-- So a meaning is unique: good books, and good nets, that are printed alike are one.
+pub book-unique : (a b : Book) → GoodBook a → GoodBook b → printBook a ≡ printBook b → a ≡ b
+book-unique = print-unique
+
+-- The same of nets.
+pub net-unique : (ags : List Agent) (m n : Net) → GoodNet ags m → GoodNet ags n → printNet m ≡ printNet n → m ≡ n
+net-unique = net-print-unique
+
+-- Sound tables. A table is sound exactly if it is that of a good book, exactly if it passes the test, and exactly if
+-- its symbols are properly spelt and different and the machine's table in it is sound as the model has it.
+pub table-book : (t : Table) → SoundTable t ↔ ((b : Book) × GoodBook b × (tableOf b ≡ t))
+table-book = sound-table
+
+-- The executable test is exact.
+pub table-test : (t : Table) → (testTable t ≡ true) ↔ SoundTable t
+table-test = test-sound
+
+-- What is asked beside the machine's own soundness is the spelling of the symbols.
+pub table-machine : (t : Table) → SoundTable t ↔ (SpeltAgents (t .agents) × Machine.SoundTable (machine t))
+table-machine = sound-exact
+
+-- The calculus. The machine's table of a good book is sound, so its rules are proper rules of the calculus, one for
+-- each pair.
+pub table-sound : (b : Book) → GoodBook b → Machine.SoundTable (machine (tableOf b))
+table-sound = book-sound
+
+-- Each coded rule means the rule that was written.
+pub rule-meant : (b : Book) → GoodBook b → (r : Rule) → In r (b .rules)
+    → Means (machine (tableOf b)) (template (b .agents) r) (meantRule (b .agents) r)
+rule-meant = book-means
+
+-- A good net loads as the model's load theorem asks, and reads as the net that was written.
+pub net-loads : (b : Book) → GoodBook b → (n : Net) → GoodNet (b .agents) n
+    → NetReads (machine (tableOf b)) (load (b .agents) n) (meantNet (b .agents) n)
+net-loads = net-ready
+
+-- In it each name occurs exactly twice.
+pub net-valid : (b : Book) → GoodBook b → (n : Net) → GoodNet (b .agents) n → Closed (meantNet (b .agents) n)
+net-valid = net-closed
+
+-- So two accepted texts load a sound state, which stands for the net that was written.
+pub texts-load : (rules net : List ℕ) (b : Book) (n : Net)
+    → readRules rules ≡ accepted b → readNet (b .agents) net ≡ accepted n
+    → (h : Machine.Sound (machine (tableOf b)) (loaded (load (b .agents) n)))
+    × (Machine.meaning h ≈ meantNet (b .agents) n)
+texts-load = accepted-loads

@@ -1,0 +1,403 @@
+-- A coded rule passes the test exactly if it is sound as the machine asks.
+use Prim.Native.Nat.{ℕ, zero, suc, _+_, _*_, _-_, _<_, _≤_}
+use mathlib.Core.Path.{_≡_, refl, sym, ap, ap₂, subst, _∙_}
+use mathlib.Core.Bool.{Bool, true, false, not, _&&_, _||_}
+use mathlib.Core.Logic.{inl, inr}
+use mathlib.Core.List.{List, [], _++_, map}
+use native.Mathlib.Omega.{arith}
+use native.Mathlib.Decide.{decLt}
+use lib.ListN.{length, getD}
+use lib.Dec.{eqb, ltb}
+use borrow.Author.Tests.{eqb-true, eq-eqb, lt-ltb, ltb-true}
+use Rattle.parts.specs.Limits.{arity-max}
+use Rattle.calculus.specs.Terms.{Eqn, _∼_, eqs-names, names, sub-eqn, ren, δ, count}
+use Rattle.calculus.specs.Proofs.Count.{sum-append, sum-perm}
+use Rattle.calculus.specs.Calculus.{Rule}
+use Rattle.calculus.specs.Rules.{Level, exchange-lists, Plain}
+use Rattle.calculus.specs.Proofs.Rules.{plain-two-sided, reordered-of-counts}
+use Rattle.parts.specs.Sides.{Side, name, cell}
+use Rattle.model.specs.Table.{Cell, Entry, arity, no-cell}
+use Rattle.model.specs.Table as Model
+use Rattle.model.specs.State.{from}
+use Rattle.model.specs.Sound.{first-new, InOrder, SoundEntry}
+use Rattle.texts.specs.Bytes.{all, any}
+use Rattle.texts.specs.Books.{Agent}
+use Rattle.texts.specs.Coded.{second-from, new-from}
+use Rattle.texts.specs.TableTest.{tally, arityAt, cellOk, unpaired, argsAll, allCodes, sameSide, codeOk, walk, met, numbered, turnsTo, twoSided, testTemplate}
+use Rattle.texts.specs.Proofs.Tools.{both, pair, In, all-true, true-all, empty}
+use Rattle.texts.specs.Proofs.Linear.{tally-append}
+use Rattle.texts.specs.Proofs.Clauses.{to-standing, of-standing, Clauses, clauses-of, tested, Place, on-left, on-right, is-new, place, of-place}
+use Rattle.texts.specs.Proofs.CellReading.{Read, walk-reads, walked, Equations, equations, Sidewise, sidewise, name-count, cell-count}
+use Rattle.texts.specs.Proofs.Wires.{Wire, pairOf, eqnOf, ends, wires-of, ends-names, level, Arg, Once, unchanged}
+use Rattle.texts.specs.Proofs.Rows.{from-out, from-in, from-where, in-order, final, numbered-of, final-most, final-least, all-at, at-all, counted-in, in-counted}
+
+module _ (ags : List Agent) (few : (n : ℕ) → arityAt ags n ≤ arity-max) (T : Model.Table) (many : length (T .arities) ≡ length ags)
+    (arities : (s : ℕ) → arity T s ≡ arityAt ags s) (e : Entry) where
+  abbrev a : ℕ
+  a = arityAt ags (e .left)
+
+  abbrev b : ℕ
+  b = arityAt ags (e .right)
+
+  abbrev mem : ℕ → Cell
+  mem m = getD (e .cells) m no-cell
+
+  held : (j : ℕ) → j < length (e .cells) → mem (0 + j) ≡ getD (e .cells) j no-cell
+  held j l = let z : 0 + j ≡ j = omega arith in rw z
+
+  -- the names of the rule: each argument once, each new name twice
+  abbrev right-names : List ℕ
+  right-names = from 0 a ++ (from second-from b ++ (from new-from (e .fresh) ++ from new-from (e .fresh)))
+
+  counts : (x : ℕ) → count x right-names ≡ count x (from 0 a) + count x (from second-from b) + 2 * count x (from new-from (e .fresh))
+  counts x =
+      let p = sum-append (δ x) (from 0 a) (from second-from b ++ (from new-from (e .fresh) ++ from new-from (e .fresh))) in
+      let q = sum-append (δ x) (from second-from b) (from new-from (e .fresh) ++ from new-from (e .fresh)) in
+      let r = sum-append (δ x) (from new-from (e .fresh)) (from new-from (e .fresh)) in
+      omega (arith, p, q, r)
+
+  -- where a number is
+  data Where (x : ℕ) : Type 0 where
+    inside : Place ags e x → Where x
+    outside : a ≤ x → (second-from ≤ x → second-from + b ≤ x) → (new-from ≤ x → new-from + e .fresh ≤ x) → Where x
+
+  find : (x : ℕ) → Where x
+  find x = go (decLt x a) (decLt x second-from) (decLt x (second-from + b)) (decLt x new-from) (decLt x (new-from + e .fresh))
+    where
+      go : Dec (x < a) → Dec (x < second-from) → Dec (x < second-from + b) → Dec (x < new-from) → Dec (x < new-from + e .fresh) → Where x
+      go (yes l) q r s t = inside (on-left l)
+      go (no l) (no m) (yes n) s t = inside (on-right (x - second-from) (omega (arith, m)) (omega (arith, m, n)))
+      go (no l) (yes m) r s t = outside (omega (arith, l)) (λ o. absurd (omega (arith, o, m))) (λ o. absurd (omega (arith, o, m)))
+      go (no l) (no m) (no n) (no o) (yes p) = inside (is-new (x - new-from) (omega (arith, o)) (omega (arith, o, p)))
+      go (no l) (no m) (no n) (yes o) t = outside (omega (arith, l)) (λ i. omega (arith, n)) (λ i. absurd (omega (arith, i, o)))
+      go (no l) (no m) (no n) (no o) (no p) = outside (omega (arith, l)) (λ i. omega (arith, n)) (λ i. omega (arith, p))
+
+  -- how often, by place
+  often : {x : ℕ} → Place ags e x → ℕ
+  often (on-left l) = 1
+  often (on-right j z l) = 1
+  often (is-new k z l) = 2
+
+  place-counts : (x : ℕ) (p : Place ags e x) → (count x right-names ≡ often p) × (count x (from 0 a) + count x (from second-from b) + count x (from new-from (e .fresh)) ≡ 1)
+  unfolding often
+  place-counts x (on-left l) =
+      let f = few (e .left) in
+      let p = from-in a 0 x (omega arith) (omega (arith, l)) in
+      let q = from-out b second-from x (λ o. absurd (omega (arith, o, l, f))) in
+      let r = from-out (e .fresh) new-from x (λ o. absurd (omega (arith, o, l, f))) in
+      let c = counts x in
+      (omega (arith, c, p, q, r), omega (arith, p, q, r))
+  place-counts x (on-right j z l) =
+      let f = few (e .left) in
+      let g = few (e .right) in
+      let p = from-out a 0 x (λ o. omega (arith, z, f)) in
+      let q = from-in b second-from x (omega (arith, z)) (omega (arith, z, l)) in
+      let r = from-out (e .fresh) new-from x (λ o. absurd (omega (arith, o, z, l, g))) in
+      let c = counts x in
+      (omega (arith, c, p, q, r), omega (arith, p, q, r))
+  place-counts x (is-new k z l) =
+      let f = few (e .left) in
+      let g = few (e .right) in
+      let p = from-out a 0 x (λ o. omega (arith, z, f)) in
+      let q = from-out b second-from x (λ o. omega (arith, z, g)) in
+      let r = from-in (e .fresh) new-from x (omega (arith, z)) (omega (arith, z, l)) in
+      let c = counts x in
+      (omega (arith, c, p, q, r), omega (arith, p, q, r))
+
+  out-counts : (x : ℕ) → a ≤ x → (second-from ≤ x → second-from + b ≤ x) → (new-from ≤ x → new-from + e .fresh ≤ x)
+      → (count x (from 0 a) ≡ 0) × (count x (from second-from b) ≡ 0) × (count x (from new-from (e .fresh)) ≡ 0)
+  out-counts x h k l = (from-out a 0 x (λ o. omega (arith, h)), from-out b second-from x k, from-out (e .fresh) new-from x l)
+
+  once : (x : ℕ) → count x (from 0 a ++ (from second-from b ++ from new-from (e .fresh))) ≤ 1
+  once x =
+      let p = sum-append (δ x) (from 0 a) (from second-from b ++ from new-from (e .fresh)) in
+      let q = sum-append (δ x) (from second-from b) (from new-from (e .fresh)) in
+      go (find x) p q
+    where
+      go : Where x → count x (from 0 a ++ (from second-from b ++ from new-from (e .fresh))) ≡ count x (from 0 a) + count x (from second-from b ++ from new-from (e .fresh))
+          → count x (from second-from b ++ from new-from (e .fresh)) ≡ count x (from second-from b) + count x (from new-from (e .fresh))
+          → count x (from 0 a ++ (from second-from b ++ from new-from (e .fresh))) ≤ 1
+      go (inside i) p q = let z = place-counts x i .1 in omega (arith, p, q, z)
+      go (outside h k l) p q = let z = out-counts x h k l in let u = z .0 in let v = z .1 in let w = z .2 in omega (arith, p, q, u, v, w)
+
+  -- a rule of wires alone
+  wired : (es : List Eqn) → e .left ≡ e .right → e .fresh ≡ 0 → ((x : ℕ) → count x (eqs-names es) ≡ count x right-names) → (ws : List Wire) → es ≡ map eqnOf ws
+      → ((x : ℕ) → 0 < count x (ends ws) → Arg a (few (e .left)) x) × Once (ends ws)
+  wired es same none-new c ws w = (
+    λ x k. go x (find x) (let z = c x in let y = n x in omega (arith, k, z, y)),
+    λ x. at x (find x) (c x) (n x),
+  )
+    where
+      n : (x : ℕ) → count x (eqs-names es) ≡ count x (ends ws)
+      n x = ap (λ l. count x (eqs-names l)) w ∙ ap (count x) (ends-names ws)
+
+      equal : b ≡ a
+      equal = ap (arityAt ags) (sym same)
+
+      go : (x : ℕ) → Where x → 0 < count x right-names → Arg a (few (e .left)) x
+      go x (inside (on-left l)) k = inl l
+      go x (inside (on-right j z l)) k = inr (omega (arith, z), omega (arith, z, l, equal))
+      go x (inside (is-new i z l)) k = absurd (omega (arith, l, none-new))
+      go x (outside h i l) k = let z = out-counts x h i l in let u = z .0 in let v = z .1 in let y = z .2 in let q = counts x in absurd (omega (arith, k, q, u, v, y))
+
+      at : (x : ℕ) → Where x → count x (eqs-names es) ≡ count x right-names → count x (eqs-names es) ≡ count x (ends ws) → count x (ends ws) ≤ 1
+      at x (inside p) i j =
+          let u = place-counts x p .1 in
+          let o = from-out (e .fresh) new-from x (λ y. omega (arith, y, none-new)) in
+          let q = counts x in
+          omega (arith, i, j, u, o, q)
+      at x (outside h k l) i j = let z = out-counts x h k l in let u = z .0 in let v = z .1 in let y = z .2 in let q = counts x in omega (arith, i, j, u, v, y, q)
+
+  -- all sides, and those that the walk meets
+  name-tally : walk 0 (unpaired (e .body)) (e .cells) ≡ true → (x : ℕ) → count x (met (unpaired (e .body)) (e .cells)) ≡ tally (sameSide (name x)) (allCodes e)
+  unfolding allCodes
+  name-tally h x = name-count x (e .cells) 0 (unpaired (e .body)) h ∙ sym (tally-append (sameSide (name x)) (unpaired (e .body)) (argsAll (e .cells)))
+
+  cell-tally : walk 0 (unpaired (e .body)) (e .cells) ≡ true → (c : ℕ) → count c (from 0 (length (e .cells))) ≡ tally (sameSide (cell c)) (allCodes e)
+  unfolding allCodes
+  cell-tally h c = cell-count c (e .cells) 0 (unpaired (e .body)) h ∙ sym (tally-append (sameSide (cell c)) (unpaired (e .body)) (argsAll (e .cells)))
+
+  -- from the test
+  module _ (ht : testTemplate ags e ≡ true) where
+    abbrev c : Clauses ags e
+    c = clauses-of ags e ht
+
+    read : Read mem 0 (unpaired (e .body)) (e .cells)
+    read = walk-reads mem (e .cells) 0 (unpaired (e .body)) (c .walked) held
+
+    eqns : Equations mem (e .body) (read .terms) (from 0 (length (e .cells)))
+    eqns = equations mem (e .body) (read .reads)
+
+    -- the rule of the calculus
+    pub rule : Rule
+    rule = record {
+      left = e .left;
+      right = e .right;
+      xs = from 0 a;
+      ys = from second-from b;
+      new = from new-from (e .fresh);
+      body = eqns .eqs;
+    }
+
+    met-names : eqs-names (eqns .eqs) ≡ met (unpaired (e .body)) (e .cells)
+    met-names = eqns .same-names ∙ read .names-met
+
+    tallies : (x : ℕ) (p : Place ags e x) → tally (sameSide (name x)) (allCodes e) ≡ often p
+    unfolding often
+    tallies x (on-left l) = let z : 0 + x ≡ x = omega arith in rw z at (of-standing 1 (allCodes e) 0 a (c .left-once) x l)
+    tallies x (on-right j z l) = rw z (of-standing 1 (allCodes e) second-from b (c .right-once) j l)
+    tallies x (is-new k z l) = rw z (of-standing 2 (allCodes e) new-from (e .fresh) (c .new-twice) k l)
+
+    not-there : (x : ℕ) → (Place ags e x → ⊥) → tally (sameSide (name x)) (allCodes e) ≡ 0
+    not-there x h = go (decLt 0 (tally (sameSide (name x)) (allCodes e)))
+      where
+        go : Dec (0 < tally (sameSide (name x)) (allCodes e)) → tally (sameSide (name x)) (allCodes e) ≡ 0
+        go (yes k) = absurd (h (place ags e x (all-true (codeOk ags e) (name x) (allCodes e) (c .codes-ok) (in-counted x (allCodes e) k))))
+        go (no k) = omega (arith, k)
+
+    linear : (x : ℕ) → count x (eqs-names (eqns .eqs)) ≡ count x right-names
+    linear x = ap (count x) met-names ∙ (name-tally (c .walked) x ∙ go (find x))
+      where
+        go : Where x → tally (sameSide (name x)) (allCodes e) ≡ count x right-names
+        go (inside p) = tallies x p ∙ sym (place-counts x p .0)
+        go (outside h k l) =
+            let z = out-counts x h k l in
+            let u = z .0 in
+            let v = z .1 in
+            let w = z .2 in
+            let q = counts x in
+            not-there x none ∙ omega (arith, u, v, w, q)
+          where
+            none : Place ags e x → ⊥
+            none (on-left i) = omega (arith, h, i)
+            none (on-right j y i) = let o = k (omega (arith, y)) in omega (arith, o, y, i)
+            none (is-new j y i) = let o = l (omega (arith, y)) in omega (arith, o, y, i)
+
+    self : e .left ≡ e .right → (length (e .cells) ≡ 0) × (e .fresh ≡ 0) × (all (λ p. any (turnsTo p) (e .body)) (e .body) ≡ true)
+    unfolding twoSided
+    self q =
+        let h : twoSided e ≡ true = rw (eq-eqb (e .left) (e .right) q) at (c .self) in
+        let p = both (eqb (length (e .cells)) 0 && eqb (e .fresh) 0) _ h in
+        let r = both (eqb (length (e .cells)) 0) (eqb (e .fresh) 0) (p .0) in
+        (eqb-true (length (e .cells)) 0 (r .0), eqb-true (e .fresh) 0 (r .1), p .1)
+
+    plain : e .left ≡ e .right → Plain rule
+    unfolding rule
+    plain q =
+        let s = self q in
+        let w = wires-of mem (e .body) (eqns .eqs) (from 0 (length (e .cells))) (eqns .reads) (ap (from 0) (s .0)) in
+        let u = wired (eqns .eqs) q (s .1) linear (w .0) (w .2) in
+        let t : all (λ p. any (turnsTo p) (map pairOf (w .0))) (map pairOf (w .0)) ≡ true = subst (λ l. all (λ p. any (turnsTo p) l) l ≡ true) (w .1) (s .2) in
+        let equal : a ≡ b = ap (arityAt ags) q in
+        let p = unchanged a (few (e .left)) (w .0) (u .0) (u .1) .0 t in
+        record {
+          level = subst (λ n. Level (from 0 a) (from second-from n)) equal (level a 0 second-from);
+          none-new = ap (from new-from) (s .1);
+          unchanged = subst (λ n. map (sub-eqn (ren (exchange-lists (from 0 a) (from second-from n)))) (eqns .eqs) ∼ eqns .eqs) equal
+              (subst (λ l. map (sub-eqn (ren (exchange-lists (from 0 a) (from second-from a)))) l ∼ l) (sym (w .2)) p);
+        }
+
+    pub entry-sound : SoundEntry T e rule
+    unfolding rule cellOk
+    entry-sound = record {
+      means = record {
+        left = refl;
+        right = refl;
+        xs = ap (from 0) (sym (arities (e .left)));
+        ys = ap (from second-from) (sym (arities (e .right)));
+        new = refl;
+        reads = eqns .reads;
+        in-order = subst (InOrder 0) (sym met-names) (in-order (e .fresh) (met (unpaired (e .body)) (e .cells)) 0 (c .in-order));
+      };
+      proper = record {
+        different = once;
+        linear = reordered-of-counts (eqs-names (eqns .eqs)) right-names linear;
+        two-sided = λ q. plain-two-sided rule once (plain q);
+      };
+      left = rw many (c .left-symbol);
+      right = rw many (c .right-symbol);
+      cells = λ m l.
+          let p = both (ltb ((mem m) .symbol) (length ags)) (eqb (length ((mem m) .args)) (arityAt ags ((mem m) .symbol))) (all-at (cellOk ags) no-cell (e .cells) (c .cells-ok) m l) in
+          record {
+            symbol = rw many (ltb-true ((mem m) .symbol) (length ags) (p .0));
+            args = eqb-true (length ((mem m) .args)) (arityAt ags ((mem m) .symbol)) (p .1) ∙ sym (arities ((mem m) .symbol));
+          };
+      few-equations = c .few-equations;
+      few-cells = c .few-cells;
+      few-names = c .few-names;
+      plain = λ q. (plain q, empty (e .cells) (self q .0));
+    }
+
+  -- and back
+  module _ (r : Rule) (s : SoundEntry T e r) where
+    abbrev sides : Sidewise mem (e .body) (r .body) (from 0 (length (e .cells)))
+    sides = sidewise mem (s .means .reads)
+
+    steps : (walk 0 (unpaired (e .body)) (e .cells) ≡ true) × (names (sides .terms) ≡ met (unpaired (e .body)) (e .cells))
+    steps = walked mem (e .cells) held (unpaired (e .body)) (sides .terms) (sides .reads)
+
+    body-names : eqs-names (r .body) ≡ met (unpaired (e .body)) (e .cells)
+    body-names = sym (sides .same-names) ∙ steps .1
+
+    lists : r .xs ++ (r .ys ++ (r .new ++ r .new)) ≡ right-names
+    lists =
+        ap₂ _++_ (s .means .xs ∙ ap (from 0) (arities (e .left)))
+        (ap₂ _++_ (s .means .ys ∙ ap (from second-from) (arities (e .right))) (ap₂ _++_ (s .means .new) (s .means .new)))
+
+    body-counts : (x : ℕ) → count x (eqs-names (r .body)) ≡ count x right-names
+    body-counts x = sum-perm (δ x) (s .proper .linear) ∙ ap (count x) lists
+
+    side-counts : (x : ℕ) → tally (sameSide (name x)) (allCodes e) ≡ count x right-names
+    side-counts x = sym (name-tally (steps .0) x) ∙ (ap (count x) (sym body-names) ∙ body-counts x)
+
+    placed : (x : ℕ) → 0 < count x right-names → Place ags e x
+    placed x k = go (find x)
+      where
+        go : Where x → Place ags e x
+        go (inside p) = p
+        go (outside h i l) =
+            let z = out-counts x h i l in
+            let u = z .0 in
+            let v = z .1 in
+            let w = z .2 in
+            let q = counts x in
+            absurd (omega (arith, k, q, u, v, w))
+
+    side-ok : (d : Side) → In d (allCodes e) → codeOk ags e d ≡ true
+    unfolding codeOk
+    side-ok (name x) m =
+        let k = counted-in (name x) (allCodes e) m in
+        let z = side-counts x in
+        of-place ags e (few (e .left)) (few (e .right)) x (placed x (omega (arith, k, z)))
+    side-ok (cell d) m =
+        let k = counted-in (cell d) (allCodes e) m in
+        let z = cell-tally (steps .0) d in
+        let w = from-where (length (e .cells)) 0 d (omega (arith, k, z)) in
+        let l = w .1 in
+        lt-ltb d (length (e .cells)) (omega (arith, l))
+
+    at-place : (x : ℕ) (p : Place ags e x) → tally (sameSide (name x)) (allCodes e) ≡ often p
+    at-place x p = side-counts x ∙ place-counts x p .0
+
+    cell-is : (m : ℕ) → m < length (e .cells) → cellOk ags (mem m) ≡ true
+    unfolding cellOk
+    cell-is m l =
+        let d = s .cells m l in
+        pair (ltb ((mem m) .symbol) (length ags)) _ (lt-ltb ((mem m) .symbol) (length ags) (rw (← many) (d .symbol))) (eq-eqb _ _ (d .args ∙ arities ((mem m) .symbol)))
+
+    -- as many new names as are met
+    all-met : final 0 (eqs-names (r .body)) ≡ e .fresh
+    all-met = go (e .fresh) refl
+      where
+        upper : final 0 (eqs-names (r .body)) ≤ e .fresh
+        upper =
+            final-most (e .fresh) (eqs-names (r .body)) 0 (omega arith)
+            (λ x k. at x (let z = body-counts x in placed x (omega (arith, k, z))))
+          where
+            at : (x : ℕ) → Place ags e x → x < first-new + e .fresh
+            at x (on-left l) = let f = few (e .left) in omega (arith, l, f)
+            at x (on-right j z l) = let f = few (e .right) in omega (arith, z, l, f)
+            at x (is-new k z l) = omega (arith, z, l)
+
+        go : (n : ℕ) → e .fresh ≡ n → final 0 (eqs-names (r .body)) ≡ e .fresh
+        go zero h = let u = upper in omega (arith, u, h)
+        go (suc n) h =
+            let u = upper in
+            let z = body-counts (new-from + n) in
+            let q = counts (new-from + n) in
+            let i = from-in (e .fresh) new-from (new-from + n) (omega arith) (omega (arith, h)) in
+            let l = final-least (eqs-names (r .body)) 0 .1 (new-from + n) (omega (arith, z, q, i)) in
+            omega (arith, u, h, l)
+
+    order : numbered (e .fresh) 0 (met (unpaired (e .body)) (e .cells)) ≡ true
+    order = subst (λ l. numbered (e .fresh) 0 l ≡ true) body-names (subst (λ n. numbered n 0 (eqs-names (r .body)) ≡ true) all-met (numbered-of (eqs-names (r .body)) 0 (s .means .in-order)))
+
+    no-fresh : r .new ≡ [] → e .fresh ≡ 0
+    no-fresh h = go (e .fresh) (sym (s .means .new) ∙ h)
+      where
+        go : (n : ℕ) → from new-from n ≡ [] → n ≡ 0
+        go zero h = refl
+        go (suc n) h = absurd (omega (arith, ap length h))
+
+    two-sided : e .left ≡ e .right → twoSided e ≡ true
+    unfolding twoSided
+    two-sided q =
+        let p = s .plain q in
+        let n = no-fresh (p .0 .none-new) in
+        let z : length (e .cells) ≡ 0 = ap length (p .1) in
+        let w = wires-of mem (e .body) (r .body) (from 0 (length (e .cells))) (s .means .reads) (ap (from 0) z) in
+        let u = wired (r .body) q n body-counts (w .0) (w .2) in
+        let x : r .xs ≡ from 0 a = s .means .xs ∙ ap (from 0) (arities (e .left)) in
+        let y : r .ys ≡ from second-from a = s .means .ys ∙ ap (from second-from) (arities (e .right) ∙ ap (arityAt ags) (sym q)) in
+        let k : map (sub-eqn (ren (exchange-lists (from 0 a) (from second-from a)))) (map eqnOf (w .0)) ∼ map eqnOf (w .0) =
+        subst (λ l. map (sub-eqn (ren (exchange-lists (from 0 a) (from second-from a)))) l ∼ l) (w .2)
+        (subst (λ l. map (sub-eqn (ren (exchange-lists l (from second-from a)))) (r .body) ∼ r .body) x
+        (subst (λ l. map (sub-eqn (ren (exchange-lists (r .xs) l))) (r .body) ∼ r .body) y (p .0 .unchanged))) in
+        let t = unchanged a (few (e .left)) (w .0) (u .0) (u .1) .1 k in
+        pair _ _ (pair _ _ (eq-eqb (length (e .cells)) 0 z) (eq-eqb (e .fresh) 0 n)) (subst (λ l. all (λ p. any (turnsTo p) l) l ≡ true) (sym (w .1)) t)
+
+    self-test : (not (eqb (e .left) (e .right)) || twoSided e) ≡ true
+    self-test = go (eqb (e .left) (e .right)) refl
+      where
+        go : (t : Bool) → eqb (e .left) (e .right) ≡ t → (not t || twoSided e) ≡ true
+        go true h = two-sided (eqb-true (e .left) (e .right) h)
+        go false h = refl
+
+    pub entry-tested : testTemplate ags e ≡ true
+    unfolding often
+    entry-tested = tested ags e
+        (record {
+          left-symbol = rw (← many) (s .left);
+          right-symbol = rw (← many) (s .right);
+          few-equations = s .few-equations;
+          few-cells = s .few-cells;
+          few-names = s .few-names;
+          cells-ok = at-all (cellOk ags) no-cell (e .cells) cell-is;
+          codes-ok = true-all (codeOk ags e) (allCodes e) side-ok;
+          left-once = to-standing 1 (allCodes e) 0 a (λ i l. let z : 0 + i ≡ i = omega arith in at-place (0 + i) (on-left (omega (arith, l))));
+          right-once = to-standing 1 (allCodes e) second-from b (λ j l. at-place (second-from + j) (on-right j refl l));
+          new-twice = to-standing 2 (allCodes e) new-from (e .fresh) (λ k l. at-place (new-from + k) (is-new k refl l));
+          walked = steps .0;
+          in-order = order;
+          self = self-test;
+        })

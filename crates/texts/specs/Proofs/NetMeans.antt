@@ -1,0 +1,446 @@
+-- A net text is accepted exactly where it is the printed form of a good net, and means that net.
+use Prim.Native.Nat.{ℕ, suc, _<_, _≤_}
+use mathlib.Core.Path.{_≡_, refl, sym, ap, _∙_}
+use mathlib.Core.Bool.{Bool, true, false, cond, not, _&&_, _||_}
+use mathlib.Core.Logic.{_↔_}
+use mathlib.Core.List.{List, [], _∷_, _++_, map, append-nil, append-assoc}
+use mathlib.Core.Option.{Option, none, some}
+use native.Mathlib.Omega.{arith}
+use lib.ListN.{length}
+use lib.Dec.{eqb, ltb}
+use borrow.Author.Tests.{ltb-false, le-ltb, eqb-true, eq-eqb}
+use Rattle.parts.specs.Limits.{text-max, face-max, net-equations-max, net-cells-max, net-names-max}
+use Rattle.texts.specs.Bytes.{Word, Line, any, all, keep, different, same, wordByte, fault2, lines, fields, decimal, textOf, letter, digit}
+use Rattle.texts.specs.Terms.{Term, spell, worded, Node, nodes, wordsOf}
+use Rattle.texts.specs.Books.{Agent, Equation, Net, declared, writeHeader, writeFace, writeEquation, printNet, sides, pairs, cellsOf, namesOf, netTerms, wordNet, wordFace, wordEq}
+use Rattle.texts.specs.Answers.{fine, accepted, refused, need, refuse, readLines}
+use Rattle.texts.specs.RuleText.{Counts, headerLine, termsOf, bigNode}
+use Rattle.texts.specs.NetText.{faceFields, eqFields, bigNet, netFault5, netFault7, netJudged, faceNet, moreNet, faceLine, eqLine, loose, netLines, looseLine, unlessLoose, tied, netCounted, faceAndEqs, netOfLines, readNet}
+use Rattle.texts.specs.Proofs.Tools.{both, pair, neither, same-eq, any-append, keep-append, cons-eq}
+use Rattle.texts.specs.Proofs.Splitting.{free, endedLine, text-ended, lines-text, fields-line, line-fields}
+use Rattle.texts.specs.Proofs.Plain.{inField, Plain, Plains, word-plain, spells-plain, decimal-plain, line-tabs, line-bytes, line-newlines}
+use Rattle.texts.specs.Proofs.Means.{refuse-fine, need-fine, nothing, line-ended, terms-spell, spell-terms, some-plain, two, header-fine}
+use Rattle.texts.specs.Proofs.Reading.{lines-accepted, after-accepted, line-accepted}
+use Rattle.texts.specs.Refused.{Reads}
+use Rattle.texts.specs.Good.{GoodTerms, termsIn, GoodEquations, GoodNet}
+
+-- A line that is fine.
+words-plain : (Plain wordFace) × (Plain wordEq)
+unfolding all inField wordByte letter digit
+words-plain = (refl, refl)
+
+judged-fine : (ags : List Agent) (ts : List Term) (n n′ : Net) → all worded ts ≡ true → netJudged ags ts n ≡ fine n′ → GoodTerms ags ts n × (n ≡ n′)
+unfolding netJudged
+judged-fine ags ts n n′ s h =
+    let p5 = refuse-fine 5 (netFault5 ags ts n) _ h in
+    let p7 = refuse-fine 7 (netFault7 ags ts) _ (p5 .1) in
+    (record { spelt = s; no5 = p5 .0; no7 = p7 .0 }, (let z : n ≡ n′ = cc (p7 .1) in z))
+
+fine-judged : (ags : List Agent) (ts : List Term) (n : Net) → GoodTerms ags ts n → netJudged ags ts n ≡ fine n
+unfolding netJudged refuse
+fine-judged ags ts n g = rw (g .no5, g .no7)
+
+-- `face`.
+face-fields : (fs gs : List Word) → faceFields fs ≡ some gs → fs ≡ wordFace ∷ gs
+unfolding faceFields
+face-fields [] gs h = nothing h
+face-fields (w ∷ fs) gs h = go (same w wordFace) refl h
+  where
+    go : (t : Bool) → same w wordFace ≡ t → cond t (some fs) none ≡ some gs → w ∷ fs ≡ wordFace ∷ gs
+    go true e k = let z : fs ≡ gs = cc in rw (same-eq w wordFace e, z)
+    go false e k = nothing k
+
+fields-face : (gs : List Word) → faceFields (wordFace ∷ gs) ≡ some gs
+unfolding faceFields same
+fields-face gs = refl
+
+face-back : (ags : List Agent) (ts : List Term) → GoodTerms ags ts (faceNet ts) → faceLine ags (endedLine (writeFace ts)) ≡ fine (faceNet ts)
+unfolding faceLine refuse need endedLine writeFace
+face-back ags ts g =
+    let p = spells-plain ts (g .spelt) in
+    rw (
+      line-bytes wordFace (map spell ts) (words-plain .0) p,
+      fields-line wordFace (map spell ts) (line-tabs _ (some-plain wordFace _ (words-plain .0) p)),
+      fields-face,
+      terms-spell ts (g .spelt),
+    )
+    (fine-judged ags ts (faceNet ts) g)
+
+pub face-fine : (ags : List Agent) (l : Line) (n : Net)
+    → (faceLine ags l ≡ fine n) ↔ ((ts : List Term) × (l ≡ endedLine (writeFace ts)) × GoodTerms ags ts (faceNet ts) × (faceNet ts ≡ n))
+unfolding faceLine writeFace
+face-fine ags l n = (to, from)
+  where
+    to : faceLine ags l ≡ fine n → (ts : List Term) × (l ≡ endedLine (writeFace ts)) × GoodTerms ags ts (faceNet ts) × (faceNet ts ≡ n)
+    to h =
+        let p = refuse-fine 2 (fault2 l) _ h in
+        let q = need-fine 3 (faceFields (fields (l .bytes))) _ (p .1) in
+        let u = need-fine 4 (termsOf (q .0)) _ (q .2) in
+        let s = spell-terms (q .0) (u .0) (u .1) in
+        let j = judged-fine ags (u .0) (faceNet (u .0)) n (s .1) (u .2) in
+        let e : fields (l .bytes) ≡ wordFace ∷ map spell (u .0) = face-fields (fields (l .bytes)) (q .0) (q .1) ∙ ap (λ (x : List Word). wordFace ∷ x) (sym (s .0)) in
+        (u .0, line-ended l (p .0) ∙ ap endedLine (sym (line-fields (l .bytes) wordFace _ e)), j .0, j .1)
+
+    from : (ts : List Term) × (l ≡ endedLine (writeFace ts)) × GoodTerms ags ts (faceNet ts) × (faceNet ts ≡ n) → faceLine ags l ≡ fine n
+    from (ts, e, g, z) = rw (e, ← z) (face-back ags ts g)
+
+eq-fields : (fs gs : List Word) → eqFields fs ≡ some gs → (f : Word) × (g : Word) × (fs ≡ wordEq ∷ f ∷ g ∷ []) × (gs ≡ f ∷ g ∷ [])
+unfolding eqFields
+eq-fields [] gs h = nothing h
+eq-fields (w ∷ []) gs h = nothing h
+eq-fields (w ∷ f ∷ []) gs h = nothing h
+eq-fields (w ∷ f ∷ g ∷ []) gs h = go (same w wordEq) refl h
+  where
+    go : (t : Bool) → same w wordEq ≡ t → cond t (some (f ∷ g ∷ [])) none ≡ some gs
+        → (a : Word) × (b : Word) × (w ∷ f ∷ g ∷ [] ≡ wordEq ∷ a ∷ b ∷ []) × (gs ≡ a ∷ b ∷ [])
+    go true e k = let z : f ∷ g ∷ [] ≡ gs = cc in (f, g, rw (same-eq w wordEq e), sym z)
+    go false e k = nothing k
+eq-fields (w ∷ f ∷ g ∷ h ∷ hs) gs k = nothing k
+
+fields-eq : (f g : Word) → eqFields (wordEq ∷ f ∷ g ∷ []) ≡ some (f ∷ g ∷ [])
+unfolding eqFields same
+fields-eq f g = refl
+
+eq-back : (ags : List Agent) (n : Net) (e : Equation) → GoodTerms ags (termsIn e) (moreNet n (termsIn e))
+    → eqLine ags n (endedLine (writeEquation e)) ≡ fine (moreNet n (termsIn e))
+unfolding eqLine refuse need endedLine writeEquation
+eq-back ags n e g =
+    let p : Plains (spell (e .left) ∷ spell (e .right) ∷ []) = spells-plain (termsIn e) (g .spelt) in
+    rw (
+      line-bytes wordEq (spell (e .left) ∷ spell (e .right) ∷ []) (words-plain .1) p,
+      fields-line wordEq (spell (e .left) ∷ spell (e .right) ∷ []) (line-tabs _ (some-plain wordEq _ (words-plain .1) p)),
+      fields-eq,
+      terms-spell (termsIn e) (g .spelt),
+    )
+    (fine-judged ags (termsIn e) (moreNet n (termsIn e)) g)
+
+-- Two fields are two terms.
+two-terms : (ts : List Term) (f g : Word) → map spell ts ≡ f ∷ g ∷ [] → (e : Equation) × (ts ≡ termsIn e)
+two-terms [] f g h = absurd (let z : _≡_ {A = ℕ} 0 1 = cc in omega arith)
+two-terms (s ∷ []) f g h = absurd (let z : _≡_ {A = ℕ} 0 1 = cc in omega arith)
+two-terms (s ∷ t ∷ []) f g h = (record { left = s; right = t }, refl)
+two-terms (s ∷ t ∷ u ∷ us) f g h = absurd (let z : _≡_ {A = ℕ} 0 1 = cc in omega arith)
+
+pub eq-fine : (ags : List Agent) (n n′ : Net) (l : Line)
+    → (eqLine ags n l ≡ fine n′)
+    ↔ ((e : Equation) × (l ≡ endedLine (writeEquation e)) × GoodTerms ags (termsIn e) (moreNet n (termsIn e)) × (moreNet n (termsIn e) ≡ n′))
+unfolding eqLine writeEquation
+eq-fine ags n n′ l = (to, from)
+  where
+    made : (ts : List Term) (e : Equation) (fs : List Word) → ts ≡ termsIn e → l ≡ endedLine (l .bytes) → fields (l .bytes) ≡ wordEq ∷ map spell ts
+        → GoodTerms ags ts (moreNet n ts) → moreNet n ts ≡ n′
+        → (e : Equation) × (l ≡ endedLine (writeEquation e)) × GoodTerms ags (termsIn e) (moreNet n (termsIn e)) × (moreNet n (termsIn e) ≡ n′)
+    made ts e fs z le fe g m =
+        (e, le ∙ ap endedLine (sym (line-fields (l .bytes) wordEq (map spell (termsIn e)) (rw z at fe))), rw z at g, rw z at m)
+
+    to : eqLine ags n l ≡ fine n′
+        → (e : Equation) × (l ≡ endedLine (writeEquation e)) × GoodTerms ags (termsIn e) (moreNet n (termsIn e)) × (moreNet n (termsIn e) ≡ n′)
+    to h =
+        let p = refuse-fine 2 (fault2 l) _ h in
+        let q = need-fine 3 (eqFields (fields (l .bytes))) _ (p .1) in
+        let u = need-fine 4 (termsOf (q .0)) _ (q .2) in
+        let s = spell-terms (q .0) (u .0) (u .1) in
+        let f = eq-fields (fields (l .bytes)) (q .0) (q .1) in
+        let j = judged-fine ags (u .0) (moreNet n (u .0)) n′ (s .1) (u .2) in
+        let e = two-terms (u .0) (f .0) (f .1) (s .0 ∙ f .3) in
+        made (u .0) (e .0) (q .0) (e .1) (line-ended l (p .0)) (f .2 ∙ ap (λ (x : List Word). wordEq ∷ x) (sym (f .3) ∙ sym (s .0))) (j .0) (j .1)
+
+    from : (e : Equation) × (l ≡ endedLine (writeEquation e)) × GoodTerms ags (termsIn e) (moreNet n (termsIn e)) × (moreNet n (termsIn e) ≡ n′) → eqLine ags n l ≡ fine n′
+    from (e, k, g, z) = rw (k, ← z) (eq-back ags n e g)
+
+-- The lines of a text.
+addEqs : Net → List Equation → Net
+addEqs n [] = n
+addEqs n (e ∷ es) = addEqs (moreNet n (termsIn e)) es
+
+abbrev lineFor : Equation → Line
+lineFor e = endedLine (writeEquation e)
+
+abbrev Equations : List Agent → Net → List Line → Net → Type 0
+Equations ags n ls n′ = (es : List Equation) × (ls ≡ map lineFor es) × GoodEquations ags n es × (n′ ≡ addEqs n es)
+
+more-equations : (ags : List Agent) (n m n′ : Net) (l : Line) (ls : List Line) (e : Equation) (es : List Equation)
+    → l ≡ lineFor e → GoodTerms ags (termsIn e) (moreNet n (termsIn e)) → moreNet n (termsIn e) ≡ m
+    → ls ≡ map lineFor es → GoodEquations ags m es → n′ ≡ addEqs m es → Equations ags n (l ∷ ls) n′
+unfolding GoodEquations addEqs
+more-equations ags n m n′ l ls e es k g z f gs y = (e ∷ es, rw (k, f), (g, rw z gs), rw z y)
+
+to-equations : (ags : List Agent) (ls : List Line) (n n′ : Net) → Reads (eqLine ags) n ls n′ → Equations ags n ls n′
+unfolding Reads GoodEquations addEqs
+to-equations ags [] n n′ h = ([], refl, tt, sym h)
+to-equations ags (l ∷ ls) n n′ (m, e, h) =
+    let p = eq-fine ags n m l .0 e in
+    let q = to-equations ags ls m n′ h in
+    more-equations ags n m n′ l ls (p .0) (q .0) (p .1) (p .2) (p .3) (q .1) (q .2) (q .3)
+
+of-equations : (ags : List Agent) (es : List Equation) (n : Net) → GoodEquations ags n es → Reads (eqLine ags) n (map lineFor es) (addEqs n es)
+unfolding Reads GoodEquations addEqs
+of-equations ags [] n g = refl
+of-equations ags (e ∷ es) n (g, gs) = (moreNet n (termsIn e), eq-back ags n e g, of-equations ags es (moreNet n (termsIn e)) gs)
+
+add-all : (es : List Equation) (n : Net) → addEqs n es ≡ record { face = n .face; equations = n .equations ++ es }
+unfolding addEqs moreNet pairs
+add-all [] n = rw (append-nil (n .equations))
+add-all (e ∷ es) n = add-all es (moreNet n (termsIn e)) ∙ rw append-assoc
+
+-- Names over all lines.
+pub nodes-append : (ts us : List Term) → nodes (ts ++ us) ≡ nodes ts ++ nodes us
+unfolding nodes
+nodes-append [] us = refl
+nodes-append (t ∷ ts) us = rw (nodes-append ts us, append-assoc)
+
+words-append : (ns ms : List Node) → wordsOf (ns ++ ms) ≡ wordsOf ns ++ wordsOf ms
+unfolding wordsOf
+words-append [] ms = refl
+words-append (n ∷ ns) ms = rw (words-append ns ms)
+
+pub names-append : (ags : List Agent) (ts us : List Term) → namesOf ags (ts ++ us) ≡ namesOf ags ts ++ namesOf ags us
+unfolding namesOf
+names-append ags ts us = rw (nodes-append ts us, words-append (nodes ts) (nodes us)) (keep-append (λ w. not (declared ags w)) (wordsOf (nodes ts)) (wordsOf (nodes us)))
+
+flat : List (List Term) → List Term
+flat [] = []
+flat (ts ∷ tss) = ts ++ flat tss
+
+flat-pairs : (es : List Equation) → flat (map termsIn es) ≡ sides es
+unfolding flat sides
+flat-pairs [] = refl
+flat-pairs (e ∷ es) = rw (flat-pairs es)
+
+flat-lines : (n : Net) → flat (netLines n) ≡ netTerms n
+unfolding flat netLines netTerms
+flat-lines n = rw (flat-pairs (n .equations))
+
+no-names : (ags : List Agent) (names : List Word) → any (loose names) (namesOf ags []) ≡ false
+unfolding any namesOf keep nodes wordsOf
+no-names ags names = refl
+
+to-none : (ags : List Agent) (names : List Word) (k : ℕ) (tss : List (List Term))
+    → looseLine ags names k tss ≡ none → any (loose names) (namesOf ags (flat tss)) ≡ false
+unfolding looseLine flat
+to-none ags names k [] h = no-names ags names
+to-none ags names k (ts ∷ tss) h =
+    rw (names-append ags ts (flat tss), any-append (loose names) (namesOf ags ts) (namesOf ags (flat tss)))
+    (go (any (loose names) (namesOf ags ts)) h (to-none ags names (suc k) tss))
+  where
+    go : (t : Bool) → cond t (some k) (looseLine ags names (suc k) tss) ≡ none
+        → (looseLine ags names (suc k) tss ≡ none → any (loose names) (namesOf ags (flat tss)) ≡ false) → (t || any (loose names) (namesOf ags (flat tss))) ≡ false
+    go true e ih = absurd (let z : _≡_ {A = ℕ} 0 1 = cc in omega arith)
+    go false e ih = ih e
+
+from-none : (ags : List Agent) (names : List Word) (k : ℕ) (tss : List (List Term))
+    → any (loose names) (namesOf ags (flat tss)) ≡ false → looseLine ags names k tss ≡ none
+unfolding looseLine flat
+from-none ags names k [] h = refl
+from-none ags names k (ts ∷ tss) h =
+    let p = neither (any (loose names) (namesOf ags ts)) _ (sym (any-append (loose names) (namesOf ags ts) (namesOf ags (flat tss))) ∙ (ap (any (loose names)) (sym (names-append ags ts (flat tss))) ∙ h)) in
+    rw (p .0) (from-none ags names (suc k) tss (p .1))
+
+-- No line is loose exactly where no name is.
+tied-accepted : (ags : List Agent) (n n′ : Net) → (tied ags n ≡ accepted n′) ↔ ((any (loose (namesOf ags (netTerms n))) (namesOf ags (netTerms n)) ≡ false) × (n ≡ n′))
+unfolding tied unlessLoose
+tied-accepted ags n n′ = (to (looseLine ags names 2 (netLines n)) refl, from)
+  where
+    names : List Word
+    names = namesOf ags (netTerms n)
+
+    to : (o : Option ℕ) → looseLine ags (namesOf ags (netTerms n)) 2 (netLines n) ≡ o → unlessLoose o n ≡ accepted n′
+        → (any (loose (namesOf ags (netTerms n))) (namesOf ags (netTerms n)) ≡ false) × (n ≡ n′)
+    to none e h = (rw flat-lines at (to-none ags (namesOf ags (netTerms n)) 2 (netLines n) e), (let z : n ≡ n′ = cc in z))
+    to (some k) e h = absurd (let z : _≡_ {A = ℕ} 0 1 = cc in omega arith)
+
+    from : (any (loose (namesOf ags (netTerms n))) (namesOf ags (netTerms n)) ≡ false) × (n ≡ n′) → tied ags n ≡ accepted n′
+    from (h, z) = rw (from-none ags (namesOf ags (netTerms n)) 2 (netLines n) (rw flat-lines h), z)
+
+-- The whole text.
+word-net : all wordByte wordNet ≡ true
+unfolding all wordByte letter digit
+word-net = refl
+
+abbrev countsOf : Net → Counts
+countsOf n = record { first = length (n .face); second = length (n .equations) }
+
+abbrev headOf : Net → List ℕ
+headOf n = writeHeader wordNet (length (n .face)) (length (n .equations))
+
+counts-are : (c : Counts) (a b : Net) → c .first ≡ length (a .face) → c .second ≡ length (a .equations) → a ≡ b → c ≡ countsOf b
+counts-are c a b x y z = rw (← z, ← x, ← y)
+
+counted-accepted : (ags : List Agent) (c : Counts) (a b : Net) → netCounted ags c a ≡ accepted b
+    → (c ≡ countsOf b) × (any (loose (namesOf ags (netTerms a))) (namesOf ags (netTerms a)) ≡ false) × (a ≡ b)
+unfolding netCounted
+counted-accepted ags c a b h = go (eqb (c .first) (length (a .face)) && eqb (c .second) (length (a .equations))) refl h
+  where
+    go : (t : Bool) → (eqb (c .first) (length (a .face)) && eqb (c .second) (length (a .equations))) ≡ t → cond t (tied ags a) (refused 11 1) ≡ accepted b
+        → (c ≡ countsOf b) × (any (loose (namesOf ags (netTerms a))) (namesOf ags (netTerms a)) ≡ false) × (a ≡ b)
+    go true e k =
+        let p = both (eqb (c .first) (length (a .face))) _ e in
+        let q = tied-accepted ags a b .0 k in
+        (counts-are c a b (eqb-true (c .first) (length (a .face)) (p .0)) (eqb-true (c .second) (length (a .equations)) (p .1)) (q .1), q .0, q .1)
+    go false e k = absurd (let z : _≡_ {A = ℕ} 0 1 = cc in omega arith)
+
+-- Sizes.
+net-sized : (ags : List Agent) (ts : List Term) (n : Net) → netFault5 ags ts n ≡ false → (length (n .face) ≤ face-max) × (length (n .equations) ≤ net-equations-max)
+unfolding netFault5 bigNet
+net-sized ags ts n h =
+    let p = neither (any bigNode (nodes ts)) _ h in
+    let q = neither _ (ltb net-names-max (length (different (namesOf ags (netTerms n))))) (p .1) in
+    let r = neither _ (ltb net-cells-max (length (cellsOf ags (netTerms n)))) (q .0) in
+    let u = neither (ltb face-max (length (n .face))) (ltb net-equations-max (length (n .equations))) (r .0) in
+    (ltb-false face-max (length (n .face)) (u .0), ltb-false net-equations-max (length (n .equations)) (u .1))
+
+abbrev Sized : Net → Type 0
+Sized n = (length (n .face) ≤ face-max) × (length (n .equations) ≤ net-equations-max)
+
+sized-all : (ags : List Agent) (es : List Equation) (n : Net) → GoodEquations ags n es → Sized n → Sized (addEqs n es)
+unfolding GoodEquations addEqs
+sized-all ags [] n g s = s
+sized-all ags (e ∷ es) n (g, gs) s = sized-all ags es (moreNet n (termsIn e)) gs (net-sized ags (termsIn e) (moreNet n (termsIn e)) (g .no5))
+
+face-all : (n : Net) → addEqs (faceNet (n .face)) (n .equations) ≡ n
+unfolding faceNet
+face-all n = add-all (n .equations) (faceNet (n .face))
+
+pub net-good-sized : (ags : List Agent) (n : Net) → GoodNet ags n → Sized n
+net-good-sized ags n g =
+    rw face-all at (sized-all ags (n .equations) (faceNet (n .face)) (g .good-equations) (net-sized ags (n .face) (faceNet (n .face)) (g .good-face .no5)))
+
+small-after : (ags : List Agent) (ts : List Term) (n : Net) → netFault5 ags ts n ≡ false → bigNet ags n ≡ false
+unfolding netFault5
+small-after ags ts n h = neither (any bigNode (nodes ts)) (bigNet ags n) h .1
+
+small-all : (ags : List Agent) (es : List Equation) (n : Net) → GoodEquations ags n es → bigNet ags n ≡ false → bigNet ags (addEqs n es) ≡ false
+unfolding GoodEquations addEqs
+small-all ags [] n g s = s
+small-all ags (e ∷ es) n (g, gs) s = small-all ags es (moreNet n (termsIn e)) gs (small-after ags (termsIn e) (moreNet n (termsIn e)) (g .no5))
+
+-- A good net passes no size.
+pub net-good-small : (ags : List Agent) (n : Net) → GoodNet ags n → bigNet ags n ≡ false
+net-good-small ags n g =
+    rw face-all at (small-all ags (n .equations) (faceNet (n .face)) (g .good-equations) (small-after ags (n .face) (faceNet (n .face)) (g .good-face .no5)))
+
+-- The lines of a printed net.
+linesOf : Net → List Line
+linesOf n = endedLine (headOf n) ∷ endedLine (writeFace (n .face)) ∷ map lineFor (n .equations)
+
+-- From a face and its equations.
+made : (ags : List Agent) (c : Counts) (h f : Line) (ls : List Line) (m a n : Net) (ts : List Term) (es : List Equation)
+    → headerLine wordNet h ≡ fine c → f ≡ endedLine (writeFace ts) → GoodTerms ags ts (faceNet ts) → faceNet ts ≡ m
+    → ls ≡ map lineFor es → GoodEquations ags m es → a ≡ addEqs m es
+    → c ≡ countsOf n → any (loose (namesOf ags (netTerms a))) (namesOf ags (netTerms a)) ≡ false → a ≡ n
+    → (h ∷ f ∷ ls ≡ linesOf n) × GoodNet ags n
+unfolding linesOf faceNet
+made ags c h f ls m a n ts es he fe g z le gs ae ce tw an =
+    let w : h ≡ endedLine (headOf n) = header-fine wordNet word-net h (countsOf n) .0 (he ∙ ap fine ce) .0 in
+    let e : n ≡ record { face = ts; equations = es } = sym an ∙ (ae ∙ (ap (λ (x : Net). addEqs x es) (sym z) ∙ add-all es (faceNet ts))) in
+    let tf : ts ≡ n .face = sym (ap (λ (x : Net). x .face) e) in
+    let te : es ≡ n .equations = sym (ap (λ (x : Net). x .equations) e) in (
+      cons-eq w (cons-eq (fe ∙ ap (λ (x : List Term). endedLine (writeFace x)) tf) (le ∙ ap (map lineFor) te)),
+      record {
+        good-face = rw tf at g;
+        good-equations = parts ts es (n .face) (n .equations) tf te (rw (← z) at gs);
+        twice = rw an at tw;
+      },
+    )
+  where
+    parts : (ts : List Term) (es : List Equation) (us : List Term) (ds : List Equation) → ts ≡ us → es ≡ ds
+        → GoodEquations ags (faceNet ts) es → GoodEquations ags (faceNet us) ds
+    parts ts es us ds p q g = rw (p, q) at g
+
+to-face : (ags : List Agent) (h : Line) (c : Counts) (ls : List Line) (n : Net) → headerLine wordNet h ≡ fine c → faceAndEqs ags c ls ≡ accepted n
+    → (h ∷ ls ≡ linesOf n) × GoodNet ags n
+unfolding faceAndEqs
+to-face ags h c [] n e k = absurd (let z : _≡_ {A = ℕ} 0 1 = cc in omega arith)
+to-face ags h c (f ∷ ls) n e k =
+    let p = line-accepted 2 (faceLine ags f) _ n .0 k in
+    let q = after-accepted (readLines (eqLine ags) 3 (p .0) ls) (netCounted ags c) n .0 (p .2) in
+    let u = counted-accepted ags c (q .0) n (q .2) in
+    let v = to-equations ags ls (p .0) (q .0) (lines-accepted (eqLine ags) 3 (p .0) ls (q .0) .0 (q .1)) in
+    let w = face-fine ags f (p .0) .0 (p .1) in
+    made ags c h f ls (p .0) (q .0) n (w .0) (v .0) e (w .1) (w .2) (w .3) (v .1) (v .2) (v .3) (u .0) (u .1) (u .2)
+
+to-printed : (ags : List Agent) (ls : List Line) (n : Net) → netOfLines ags ls ≡ accepted n → (ls ≡ linesOf n) × GoodNet ags n
+unfolding netOfLines
+to-printed ags [] n h = absurd (let z : _≡_ {A = ℕ} 0 1 = cc in omega arith)
+to-printed ags (l ∷ ls) n h =
+    let p = line-accepted 1 (headerLine wordNet l) _ n .0 h in to-face ags l (p .0) ls n (p .1) (p .2)
+
+from-printed : (ags : List Agent) (n : Net) → GoodNet ags n → netOfLines ags (linesOf n) ≡ accepted n
+unfolding netOfLines faceAndEqs netCounted linesOf
+from-printed ags n g =
+    let s = net-good-sized ags n g in
+    line-accepted 1 (headerLine wordNet (endedLine (headOf n))) _ n .1 (
+      countsOf n,
+      header-fine wordNet word-net (endedLine (headOf n)) (countsOf n) .1 (refl, (omega (arith, s .0), omega (arith, s .1))),
+      line-accepted 2 (faceLine ags (endedLine (writeFace (n .face)))) _ n .1 (
+        faceNet (n .face),
+        face-back ags (n .face) (g .good-face),
+        after-accepted (readLines (eqLine ags) 3 (faceNet (n .face)) (map lineFor (n .equations))) (netCounted ags (countsOf n)) n .1 (
+          n,
+          lines-accepted (eqLine ags) 3 (faceNet (n .face)) (map lineFor (n .equations)) n .1
+              (rw face-all at (of-equations ags (n .equations) (faceNet (n .face)) (g .good-equations))),
+          rw (eq-eqb (length (n .face)) (length (n .face)) refl, eq-eqb (length (n .equations)) (length (n .equations)) refl)
+              (tied-accepted ags n n .1 (g .twice, refl)),
+        ),
+      ),
+    )
+
+lines-map : (es : List Equation) → map endedLine (map writeEquation es) ≡ map lineFor es
+lines-map [] = refl
+lines-map (e ∷ es) = rw (lines-map es)
+
+writtenLines : Net → List (List ℕ)
+writtenLines n = headOf n ∷ writeFace (n .face) ∷ map writeEquation (n .equations)
+
+lines-written : (n : Net) → map endedLine (writtenLines n) ≡ linesOf n
+unfolding writtenLines linesOf
+lines-written n = rw (lines-map (n .equations))
+
+equation-newlines : (ags : List Agent) (es : List Equation) (n : Net) → GoodEquations ags n es → all (all (free 10)) (map writeEquation es) ≡ true
+unfolding GoodEquations all writeEquation
+equation-newlines ags [] n g = refl
+equation-newlines ags (e ∷ es) n (g, gs) =
+    pair (all (free 10) (writeEquation e)) _
+    (line-newlines wordEq (map spell (termsIn e)) (words-plain .1) (spells-plain (termsIn e) (g .spelt)))
+    (equation-newlines ags es (moreNet n (termsIn e)) gs)
+
+header-newlines : (m n : ℕ) → m < 10000 → n < 10000 → all (free 10) (writeHeader wordNet m n) ≡ true
+unfolding writeHeader
+header-newlines m n h k = line-newlines wordNet (decimal m ∷ decimal n ∷ []) (word-plain wordNet word-net) (two (decimal m) (decimal n) (decimal-plain m h) (decimal-plain n k))
+
+written-newlines : (ags : List Agent) (n : Net) → GoodNet ags n → all (all (free 10)) (writtenLines n) ≡ true
+unfolding writtenLines all writeFace
+written-newlines ags n g =
+    let s = net-good-sized ags n g in
+    pair (all (free 10) (headOf n)) _ (header-newlines (length (n .face)) (length (n .equations)) (omega (arith, s .0)) (omega (arith, s .1)))
+    (pair (all (free 10) (writeFace (n .face))) _
+    (line-newlines wordFace (map spell (n .face)) (words-plain .0) (spells-plain (n .face) (g .good-face .spelt)))
+    (equation-newlines ags (n .equations) (faceNet (n .face)) (g .good-equations)))
+
+-- A net text is accepted and means n exactly where it is n printed, n is good, and the length is within the size.
+pub net-accepted : (ags : List Agent) (text : List ℕ) (n : Net) → (readNet ags text ≡ accepted n) ↔ ((text ≡ printNet n) × GoodNet ags n × (length text ≤ text-max))
+unfolding readNet printNet writtenLines
+net-accepted ags text n = (to (ltb text-max (length text)) refl, from)
+  where
+    to : (t : Bool) → ltb text-max (length text) ≡ t → cond t (refused 1 0) (netOfLines ags (lines text)) ≡ accepted n
+        → (text ≡ textOf (writtenLines n)) × GoodNet ags n × (length text ≤ text-max)
+    to true e h = absurd (let z : _≡_ {A = ℕ} 0 1 = cc in omega arith)
+    to false e h =
+        let p = to-printed ags (lines text) n h in
+        (text-ended text (writtenLines n) (p .0 ∙ sym (lines-written n)), p .1, ltb-false text-max (length text) e)
+
+    from : (text ≡ textOf (writtenLines n)) × GoodNet ags n × (length text ≤ text-max)
+        → cond (ltb text-max (length text)) (refused 1 0) (netOfLines ags (lines text)) ≡ accepted n
+    from (e, g, k) =
+        let q : lines text ≡ linesOf n = ap lines e ∙ (lines-text (writtenLines n) (written-newlines ags n g) ∙ lines-written n) in
+        rw (le-ltb text-max (length text) k, q) (from-printed ags n g)
+
+net-good-lines : (ags : List Agent) (n : Net) → GoodNet ags n → netOfLines ags (lines (printNet n)) ≡ accepted n
+unfolding printNet writtenLines
+net-good-lines ags n g = ap (netOfLines ags) (lines-text (writtenLines n) (written-newlines ags n g) ∙ lines-written n) ∙ from-printed ags n g
+
+-- Two good nets that are printed alike are one.
+pub net-print-unique : (ags : List Agent) (m n : Net) → GoodNet ags m → GoodNet ags n → printNet m ≡ printNet n → m ≡ n
+net-print-unique ags m n g h e =
+    let p : netOfLines ags (lines (printNet m)) ≡ accepted m = net-good-lines ags m g in
+    let q : netOfLines ags (lines (printNet m)) ≡ accepted n = ap (λ t. netOfLines ags (lines t)) e ∙ net-good-lines ags n h in cc
