@@ -1,0 +1,4 @@
+pub mod Counts
+pub mod Laws
+pub mod Piles
+pub mod Pulls

@@ -1,0 +1,4 @@
+pub mod Layout
+pub mod Moves
+pub mod Places
+pub mod Whole
