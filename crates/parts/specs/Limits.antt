@@ -1,5 +1,5 @@
 -- The sizes of document 01, each written once. `Limits` in the code has the same figures, which `figures` proves.
-use Prim.Native.Nat.{ℕ, _*_}
+use Prim.Native.Nat.{ℕ, _+_, _*_}
 
 -- "Text 65,536 bytes. Identifier 1 to 16 bytes. 64 symbols, arity 0 to 4."
 abbrev pub text-max : ℕ
@@ -63,3 +63,16 @@ loops-max = 4294967295
 
 abbrev pub budget-max : ℕ
 budget-max = 1000000
+
+-- What follows of them: the bytes of an agent, of a cell of a rule, of a rule and of a whole table that is lent.
+abbrev pub agent-size : ℕ
+agent-size = identifier-max + 1
+
+abbrev pub node-size : ℕ
+node-size = 1 + arity-max
+
+abbrev pub rule-size : ℕ
+rule-size = 5 + 2 * rule-equations-max + node-size * rule-cells-max
+
+abbrev pub table-size : ℕ
+table-size = 3 + agent-size * symbols-max + 2 * symbols-max * symbols-max + rule-size * rules-max

@@ -1,7 +1,7 @@
 // The parts that every other crate speaks of: the sizes, typed numbers, sides, equations, and the codes of sides.
 ghost use mathlib.Core.Path.{_≡_};
 ghost use Prim.Native.Nat.{ℕ, _+_, _*_, _<_};
-ghost use Rattle.parts.specs.Limits.{text-max, identifier-max, symbols-max, arity-max, rules-max, rule-equations-max, rule-cells-max, rule-names-max, face-max, net-equations-max, net-cells-max, net-names-max, level-max, cells-max, names-max, waiting-max, stuck-max, loops-max, budget-max};
+ghost use Rattle.parts.specs.Limits.{text-max, identifier-max, symbols-max, arity-max, rules-max, rule-equations-max, rule-cells-max, rule-names-max, face-max, net-equations-max, net-cells-max, net-names-max, level-max, cells-max, names-max, waiting-max, stuck-max, loops-max, budget-max, agent-size, node-size, rule-size, table-size};
 ghost use Rattle.parts.specs.Sides.{code, side};
 ghost use Rattle.parts.specs.Typed.{plain, number, typed, equation};
 
@@ -57,6 +57,21 @@ impl Limits {
         + 2 * Limits::WAITING
         + 2 * Limits::STUCK
         + Limits::FACE;
+
+    // The bytes of an agent in a lent table: its letters, and its arity + 1.
+    pub const AGENT: usize = Limits::IDENTIFIER + 1;
+
+    // The bytes of a cell of a rule: its symbol + 1, and its arguments.
+    pub const NODE: usize = 1 + Limits::ARITY;
+
+    // The bytes of a rule: five numbers, the sides of its equations, and its cells.
+    pub const RULE: usize = 5 + 2 * Limits::RULE_EQUATIONS + Limits::NODE * Limits::RULE_CELLS;
+
+    // The bytes of a lent table: three for the counts, the agents, two for each pair of symbols, and the rules.
+    pub const TABLE: usize = 3
+        + Limits::AGENT * Limits::SYMBOLS
+        + 2 * Limits::SYMBOLS * Limits::SYMBOLS
+        + Limits::RULE * Limits::RULES;
 }
 
 // The figures of the code are those of the specs page.
@@ -80,6 +95,10 @@ pub fn figures()
     ensures { λ _. do ⌜ (← ⟦Limits::STUCK⟧ .entry) ≡ stuck-max ⌝ }
     ensures { λ _. do ⌜ (← ⟦Limits::LOOPS⟧ .entry) ≡ loops-max ⌝ }
     ensures { λ _. do ⌜ (← ⟦Limits::BUDGET⟧ .entry) ≡ budget-max ⌝ }
+    ensures { λ _. do ⌜ (← ⟦Limits::AGENT⟧ .entry) ≡ agent-size ⌝ }
+    ensures { λ _. do ⌜ (← ⟦Limits::NODE⟧ .entry) ≡ node-size ⌝ }
+    ensures { λ _. do ⌜ (← ⟦Limits::RULE⟧ .entry) ≡ rule-size ⌝ }
+    ensures { λ _. do ⌜ (← ⟦Limits::TABLE⟧ .entry) ≡ table-size ⌝ }
 {}
 
 // The number of a name, of a cell and of a symbol: three types, so that none stands in for another.

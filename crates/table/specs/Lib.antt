@@ -1,0 +1,5 @@
+pub mod Lists
+pub mod Layout
+pub mod Rule
+pub mod Put
+pub mod Laws

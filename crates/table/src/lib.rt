@@ -1,0 +1,51 @@
+// The lent rule table: one array of bytes, its places, rules by value and in place, writers, and the test of a table.
+ghost use mathlib.Core.Path.{_≡_};
+ghost use Prim.Native.Nat.{ℕ, _+_, _*_, _-_, _<_, _≤_};
+ghost use lib.ListN.{length};
+use parts::Limits;
+
+pub mod reading; // reading.rt: what stands in a table
+pub mod writing; // writing.rt: an empty table, one agent more, one rule more
+
+
+
+// Where each part begins. The counts stand first.
+pub struct Layout {
+    pub unused: bool,
+}
+
+impl Layout {
+    pub const SYMBOLS_AT: usize = 0;
+
+    pub const COUNT_AT: usize = 1;
+
+    pub const AGENTS_AT: usize = 3;
+
+    pub const PAIRS_AT: usize = Layout::AGENTS_AT + Limits::AGENT * Limits::SYMBOLS;
+
+    pub const RULES_AT: usize = Layout::PAIRS_AT + 2 * Limits::SYMBOLS * Limits::SYMBOLS;
+
+    // In the row of a rule: where the sides of its equations begin, and where its cells.
+    pub const SIDES_IN: usize = 5;
+
+    pub const NODES_IN: usize = Layout::SIDES_IN + 2 * Limits::RULE_EQUATIONS;
+}
+
+// A rule: the symbols of its left side, how many equations, cells and new names its right side has, the codes of the equations' sides, and of
+// each cell the symbol + 1 and the codes of its arguments.
+pub struct Rule {
+    pub left: u8,
+    pub right: u8,
+    pub equations: u8,
+    pub cells: u8,
+    pub names: u8,
+    pub sides: [u8; 2 * Limits::RULE_EQUATIONS],
+    pub nodes: [u8; Limits::NODE * Limits::RULE_CELLS],
+}
+
+// The rule of a pair of symbols: none, or its number, as it is written or with its sides exchanged.
+pub enum Match {
+    Nothing,
+    Straight(u16),
+    Turned(u16),
+}
