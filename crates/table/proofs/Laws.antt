@@ -73,13 +73,13 @@ rule-parts w at h =
     let y : at + nodes-in ≡ at + sides-in + 2 * rule-equations-max = omega arith in
     ap (λ n. take rule-size (drop n w)) z
     ∙ (ap (take rule-size) (e 0 (omega arith) ∙ ap (λ l. getD w (at + 0) 0 ∷ l) (e 1 (omega arith) ∙ ap (λ l. getD w (at + 1) 0 ∷ l) (e 2 (omega arith)
-      ∙ ap (λ l. getD w (at + 2) 0 ∷ l) (e 3 (omega arith) ∙ ap (λ l. getD w (at + 3) 0 ∷ l) (e 4 (omega arith))))))
+    ∙ ap (λ l. getD w (at + 2) 0 ∷ l) (e 3 (omega arith) ∙ ap (λ l. getD w (at + 3) 0 ∷ l) (e 4 (omega arith))))))
     ∙ (ap (λ l. getD w (at + 0) 0 ∷ getD w (at + 1) 0 ∷ getD w (at + 2) 0 ∷ getD w (at + 3) 0 ∷ getD w (at + 4) 0 ∷ l)
-      (take-add (2 * rule-equations-max) (node-size * rule-cells-max) (drop (at + sides-in) w)
-      ∙ ap (λ l. take (2 * rule-equations-max) (drop (at + sides-in) w) ++ take (node-size * rule-cells-max) l)
-        (drop-drop (2 * rule-equations-max) (at + sides-in) w ∙ ap (λ n. drop n w) (sym y)))
+    (take-add (2 * rule-equations-max) (node-size * rule-cells-max) (drop (at + sides-in) w)
+    ∙ ap (λ l. take (2 * rule-equations-max) (drop (at + sides-in) w) ++ take (node-size * rule-cells-max) l)
+    (drop-drop (2 * rule-equations-max) (at + sides-in) w ∙ ap (λ n. drop n w) (sym y)))
     ∙ ap (λ n. getD w n 0 ∷ getD w (at + 1) 0 ∷ getD w (at + 2) 0 ∷ getD w (at + 3) 0 ∷ getD w (at + 4) 0
-      ∷ (take (2 * rule-equations-max) (drop (at + sides-in) w) ++ take (node-size * rule-cells-max) (drop (at + nodes-in) w))) (sym z)))
+    ∷ (take (2 * rule-equations-max) (drop (at + sides-in) w) ++ take (node-size * rule-cells-max) (drop (at + nodes-in) w))) (sym z)))
 
 -- The rule by value: what was cut out for its sides and its cells.
 pub rule-whole : (w : List ℕ) (k : ℕ) (p q s n : List ℕ) → length w ≡ table-size → k < rules-max
@@ -88,11 +88,11 @@ pub rule-whole : (w : List ℕ) (k : ℕ) (p q s n : List ℕ) → length w ≡ 
     → s ≡ sets (replicate (2 * rule-equations-max) 0) 0 p
     → n ≡ sets (replicate (node-size * rule-cells-max) 0) 0 q
     → (getD w (rules-at + rule-size * k) 0
-      ∷ getD w (rules-at + rule-size * k + 1) 0
-      ∷ getD w (rules-at + rule-size * k + 2) 0
-      ∷ getD w (rules-at + rule-size * k + 3) 0
-      ∷ getD w (rules-at + rule-size * k + 4) 0
-      ∷ (s ++ n)) ≡ ruleRow w k
+    ∷ getD w (rules-at + rule-size * k + 1) 0
+    ∷ getD w (rules-at + rule-size * k + 2) 0
+    ∷ getD w (rules-at + rule-size * k + 3) 0
+    ∷ getD w (rules-at + rule-size * k + 4) 0
+    ∷ (s ++ n)) ≡ ruleRow w k
 rule-whole w k p q s n h hk ep eq es en =
     let at = rules-at + rule-size * k in
     let d₁ : rules-at + rule-size * k + nodes-in - (rules-at + rule-size * k + sides-in) ≡ 2 * rule-equations-max = omega arith in
@@ -106,11 +106,11 @@ rule-whole w k p q s n h hk ep eq es en =
     ∙ (cut w (replicate (node-size * rule-cells-max) 0) (rules-at + rule-size * k + nodes-in) (rules-at + rule-size * k + rule-size) (omega arith) (length-replicate {A = ℕ} (node-size * rule-cells-max) 0 ∙ sym d₂)
     ∙ ap (λ m. take m (drop (rules-at + rule-size * k + nodes-in) w)) d₂)) in
     ap₂ (λ u v. getD w (rules-at + rule-size * k) 0
-      ∷ getD w (rules-at + rule-size * k + 1) 0
-      ∷ getD w (rules-at + rule-size * k + 2) 0
-      ∷ getD w (rules-at + rule-size * k + 3) 0
-      ∷ getD w (rules-at + rule-size * k + 4) 0
-      ∷ (u ++ v)) s′ n′
+    ∷ getD w (rules-at + rule-size * k + 1) 0
+    ∷ getD w (rules-at + rule-size * k + 2) 0
+    ∷ getD w (rules-at + rule-size * k + 3) 0
+    ∷ getD w (rules-at + rule-size * k + 4) 0
+    ∷ (u ++ v)) s′ n′
     ∙ sym (rule-parts w (rules-at + rule-size * k) (omega arith))
 
 -- What the index of pairs says is what is found.

@@ -63,14 +63,14 @@ flat-way s n a b l r e c m hs hn ea eb =
     ea
     ∙ (sets-right (0 ∷ 0 ∷ 0 ∷ 0 ∷ 0 ∷ replicate (2 * rule-equations-max) 0) (replicate (node-size * rule-cells-max) 0) 0 n
     ∙ ap (λ k. 0 ∷ 0 ∷ 0 ∷ 0 ∷ 0 ∷ (replicate (2 * rule-equations-max) 0 ++ k))
-      (sets-whole (replicate (node-size * rule-cells-max) 0) n (length-replicate {A = ℕ} (node-size * rule-cells-max) 0 ∙ sym hn))) in
+    (sets-whole (replicate (node-size * rule-cells-max) 0) n (length-replicate {A = ℕ} (node-size * rule-cells-max) 0 ∙ sym hn))) in
     let b′ : b ≡ 0 ∷ 0 ∷ 0 ∷ 0 ∷ 0 ∷ (s ++ n) =
     eb
     ∙ (ap (λ k. sets k sides-in s) a′
     ∙ (sets-right (0 ∷ 0 ∷ 0 ∷ 0 ∷ 0 ∷ []) (replicate (2 * rule-equations-max) 0 ++ n) 0 s
     ∙ ap (λ k. 0 ∷ 0 ∷ 0 ∷ 0 ∷ 0 ∷ k)
-      (sets-left (replicate (2 * rule-equations-max) 0) n 0 s (omega (arith, length-replicate {A = ℕ} (2 * rule-equations-max) 0))
-      ∙ ap (λ k. k ++ n) (sets-whole (replicate (2 * rule-equations-max) 0) s (length-replicate {A = ℕ} (2 * rule-equations-max) 0 ∙ sym hs))))) in
+    (sets-left (replicate (2 * rule-equations-max) 0) n 0 s (omega (arith, length-replicate {A = ℕ} (2 * rule-equations-max) 0))
+    ∙ ap (λ k. k ++ n) (sets-whole (replicate (2 * rule-equations-max) 0) s (length-replicate {A = ℕ} (2 * rule-equations-max) 0 ∙ sym hs))))) in
     ap (λ k. set (set (set (set (set k 0 l) 1 r) 2 e) 3 c) 4 m) b′
 
 -- The sides of the equations that a row stands for are the numbers of the row.
@@ -83,9 +83,9 @@ unpaired-tab (ℕ.suc n) g =
     (ap₂ (λ a b. a ∷ b) (code-side (g 0))
     (ap₂ (λ a b. a ∷ b) (code-side (g 1))
     (ap (λ l. map code (unpaired l)) (tab-cong n (λ k. side (g (2 * suc k)) := side (g (1 + 2 * suc k))) (λ k. side (g (suc (suc (2 * k)))) := side (g (suc (suc (1 + 2 * k)))))
-      (λ k h. let y : 2 * suc k ≡ suc (suc (2 * k)) = omega arith in
-        let x : 1 + 2 * suc k ≡ suc (suc (1 + 2 * k)) = omega arith in
-        ap₂ (λ a b. side (g a) := side (g b)) y x))
+    (λ k h. let y : 2 * suc k ≡ suc (suc (2 * k)) = omega arith in
+    let x : 1 + 2 * suc k ≡ suc (suc (1 + 2 * k)) = omega arith in
+    ap₂ (λ a b. side (g a) := side (g b)) y x))
     ∙ unpaired-tab n (λ k. g (suc (suc k))))))
 
 sides-of : (ags : List Agent) (r : List ℕ) → map code (unpaired ((entryOf ags r) .body)) ≡ tab (2 * getD r 2 0) (λ k. getD r (sides-in + k) 0)
@@ -135,15 +135,15 @@ module _ (ags : List Agent) (r : List ℕ) where
   node-row p h q =
       ap (λ i. getD (ruleBytes (entryOf ags r)) i 0) (place p h)
       ∙ node-in (entryOf ags r) ((p - nodes-in) / node-size) ((p - nodes-in) % node-size)
-        (omega (arith, div-add-mod' (p - nodes-in) node-size))
-        (mod-lt (p - nodes-in) {m = node-size} (omega arith))
+      (omega (arith, div-add-mod' (p - nodes-in) node-size))
+      (mod-lt (p - nodes-in) {m = node-size} (omega arith))
 
   pub node-past : (n p : ℕ) → n ≡ getD r 3 0 → nodes-in ≤ p → p < rule-size → n ≤ (p - nodes-in) / node-size → 0 ≡ getD (ruleBytes (entryOf ags r)) p 0
   unfolding entryOf
   node-past n p e h q k =
       sym (node-row p h q
       ∙ (ap (λ l. getD l ((p - nodes-in) % node-size) 0)
-        (row-past node-size nodeBytes (tab (getD r 3 0) (cellOf ags r)) ((p - nodes-in) / node-size) (omega (arith, length-tab (getD r 3 0) (cellOf ags r))))
+      (row-past node-size nodeBytes (tab (getD r 3 0) (cellOf ags r)) ((p - nodes-in) / node-size) (omega (arith, length-tab (getD r 3 0) (cellOf ags r))))
       ∙ getD-replicate node-size ((p - nodes-in) % node-size) 0 0 (mod-lt (p - nodes-in) {m = node-size} (omega arith))))
 
   node-here : (n p : ℕ) → n ≡ getD r 3 0 → nodes-in ≤ p → p < rule-size → (p - nodes-in) / node-size < n
@@ -152,8 +152,8 @@ module _ (ags : List Agent) (r : List ℕ) where
   node-here n p e h q k =
       node-row p h q
       ∙ ap (λ l. getD l ((p - nodes-in) % node-size) 0)
-        (row-at node-size nodeBytes (tab (getD r 3 0) (cellOf ags r)) ((p - nodes-in) / node-size) (cellOf ags r 0) (omega (arith, length-tab (getD r 3 0) (cellOf ags r)))
-        ∙ ap nodeBytes (tab-at (getD r 3 0) (cellOf ags r) ((p - nodes-in) / node-size) (cellOf ags r 0) (omega arith)))
+      (row-at node-size nodeBytes (tab (getD r 3 0) (cellOf ags r)) ((p - nodes-in) / node-size) (cellOf ags r 0) (omega (arith, length-tab (getD r 3 0) (cellOf ags r)))
+      ∙ ap nodeBytes (tab-at (getD r 3 0) (cellOf ags r) ((p - nodes-in) / node-size) (cellOf ags r 0) (omega arith)))
 
   pub node-head : (n p x : ℕ) → n ≡ getD r 3 0 → nodes-in ≤ p → p < rule-size → (p - nodes-in) / node-size < n → (p - nodes-in) % node-size ≡ 0
       → x ≡ suc (pred (getD r (nodes-in + node-size * ((p - nodes-in) / node-size)) 0)) → x ≡ getD (ruleBytes (entryOf ags r)) p 0
@@ -169,7 +169,7 @@ module _ (ags : List Agent) (r : List ℕ) where
       node-here n p e h q k
       ∙ (ap (λ j. getD (nodeBytes (cellOf ags r ((p - nodes-in) / node-size))) j 0) i
       ∙ tab-at arity-max (λ j. getD (map code ((cellOf ags r ((p - nodes-in) / node-size)) .args)) j 0) ((p - nodes-in) % node-size - 1) 0
-        (let m : (p - nodes-in) % node-size < node-size = mod-lt (p - nodes-in) {m = node-size} (omega arith) in omega (arith, z)))
+      (let m : (p - nodes-in) % node-size < node-size = mod-lt (p - nodes-in) {m = node-size} (omega arith) in omega (arith, z)))
 
   node-over′ : (n p a : ℕ) → n ≡ getD r 3 0 → nodes-in ≤ p → p < rule-size → (p - nodes-in) / node-size < n → ((p - nodes-in) % node-size ≡ 0 → ⊥)
       → a ≡ arityAt ags (symbolOf r ((p - nodes-in) / node-size)) → a < (p - nodes-in) % node-size → 0 ≡ getD (ruleBytes (entryOf ags r)) p 0
@@ -214,10 +214,10 @@ filling-none t = record { within = omega arith; long = length-replicate {A = ℕ
 
 pub filling-more : (t o : List ℕ) (i x : ℕ) → Filling t o i → i < rule-size → x ≡ getD t i 0 → Filling t (set o i x) (i + 1)
 filling-more t o i x f h e = record {
-    within = omega arith;
-    long = length-set o i x ∙ f .long;
-    so-far = below-more _ i (λ k q. getD-set-other o i k x 0 (λ z. omega arith) ∙ f .so-far k q) (getD-set-same o i x 0 (omega (arith, f .long)) ∙ e);
-  }
+  within = omega arith;
+  long = length-set o i x ∙ f .long;
+  so-far = below-more _ i (λ k q. getD-set-other o i k x 0 (λ z. omega arith) ∙ f .so-far k q) (getD-set-same o i x 0 (omega (arith, f .long)) ∙ e);
+}
 
 pub filling-done : (ags : List Agent) (r v o : List ℕ) (i : ℕ) → v ≡ r → Filling (ruleBytes (entryOf ags v)) o i → rule-size ≤ i → o ≡ ruleBytes (entryOf ags r)
 filling-done ags r v o i e f h =

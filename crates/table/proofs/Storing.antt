@@ -18,10 +18,10 @@ storing-none o at w = record { within = omega arith; long = refl; left = let z :
 module _ {o₀ : List ℕ} {at : ℕ} {w o : List ℕ} {i : ℕ} (s : Storing o₀ at w o i) where
   pub storing-more : i < length w → Storing o₀ at w (set o (at + i) (getD w i 0)) (i + 1)
   storing-more h = record {
-      within = omega arith;
-      long = rw length-set (s .long);
-      left = let z : at + (i + 1) ≡ suc (at + i) = omega arith in rw (s .left, drop-cons w i 0, z, add-one);
-    }
+    within = omega arith;
+    long = rw length-set (s .long);
+    left = let z : at + (i + 1) ≡ suc (at + i) = omega arith in rw (s .left, drop-cons w i 0, z, add-one);
+  }
 
   pub storing-done : length w ≤ i → o ≡ sets o₀ at w
   storing-done h = rw (s .left, drop-of-length-le)

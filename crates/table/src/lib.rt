@@ -7,8 +7,6 @@ use parts::Limits;
 pub mod reading; // reading.rt: what stands in a table
 pub mod writing; // writing.rt: an empty table, one agent more, one rule more
 
-
-
 // Where each part begins. The counts stand first.
 pub struct Layout {
     pub unused: bool,

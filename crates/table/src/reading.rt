@@ -1,7 +1,9 @@
 // What stands in a lent table: its counts, its agents, its rules by value and number by number, and the rule of a pair.
+use crate::Layout;
+use crate::Match;
+use crate::Rule;
 use parts::Limits;
 use parts::SymbolNo;
-use crate::{Layout, Match, Rule};
 ghost use mathlib.Core.Path.{_≡_};
 ghost use Prim.Native.Nat.{ℕ, _+_, _*_, _-_, _<_, _≤_, pred};
 ghost use lib.ListN.{length, getD, take, drop};
@@ -173,9 +175,17 @@ pub fn rule_at(table: &[u8; Limits::TABLE], k: u16) -> Rule
     len_of(table);
     let at = Layout::RULES_AT + Limits::RULE * (k as usize);
     let mut sides = [0u8; 2 * Limits::RULE_EQUATIONS];
-    copy_in(&mut sides, 0, part(table, at + Layout::SIDES_IN, at + Layout::NODES_IN));
+    copy_in(
+        &mut sides,
+        0,
+        part(table, at + Layout::SIDES_IN, at + Layout::NODES_IN),
+    );
     let mut nodes = [0u8; Limits::NODE * Limits::RULE_CELLS];
-    copy_in(&mut nodes, 0, part(table, at + Layout::NODES_IN, at + Limits::RULE));
+    copy_in(
+        &mut nodes,
+        0,
+        part(table, at + Layout::NODES_IN, at + Limits::RULE),
+    );
     let left = table[at];
     let right = table[at + 1];
     let equations = table[at + 2];

@@ -1,8 +1,15 @@
 // A table is written from nothing, one agent more and then one rule more: its row, its places in the index of pairs, and the count.
+use crate::Layout;
+use crate::Rule;
+use crate::reading::arity_of;
+use crate::reading::copy_in;
+use crate::reading::less_one;
+use crate::reading::rule_count;
+use crate::reading::symbol_count;
+use crate::reading::symbol_no;
+use crate::reading::wide;
 use parts::Limits;
 use parts::SymbolNo;
-use crate::{Layout, Rule};
-use crate::reading::{wide, copy_in, symbol_count, rule_count, arity_of, less_one, symbol_no};
 ghost use mathlib.Core.Path.{_≡_};
 ghost use mathlib.Core.List.{[], _∷_};
 ghost use Prim.Native.Nat.{ℕ, suc, _+_, _*_, _-_, _/_, _%_, _<_, _≤_, pred};
@@ -157,7 +164,13 @@ fn put_count(table: &mut [u8], n: u16)
 }
 
 // One rule more, the row of which is written out: the row, the pair, first as it is not written, and the count.
-fn put_rule_row(table: &mut [u8; Limits::TABLE], row: [u8; Limits::RULE], n: u16, left: u8, right: u8)
+fn put_rule_row(
+    table: &mut [u8; Limits::TABLE],
+    row: [u8; Limits::RULE],
+    n: u16,
+    left: u8,
+    right: u8,
+)
     requires { ⌜ (n < rules-max) × (left < symbols-max) × (right < symbols-max) ⌝ }
     ensures { λ _. ⌜ now (table .exit) ≡ ruled (now (table .entry)) row n left right ⌝ }
 {

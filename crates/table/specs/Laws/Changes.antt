@@ -69,7 +69,7 @@ blocks-change w (ℕ.suc n) f g h (ℕ.suc k) j vs q p e o =
     rw z
     (sets-right (f 0) (blocks n (λ k. f (suc k))) (w * k + j) vs
     ∙ ap₂ _++_ (o 0 (λ e. omega arith))
-      (blocks-change w n (λ k. f (suc k)) (λ k. g (suc k)) (λ k. h (suc k)) k j vs (omega arith) p e (λ m d. o (suc m) (λ c. d (omega (arith, c))))))
+    (blocks-change w n (λ k. f (suc k)) (λ k. g (suc k)) (λ k. h (suc k)) k j vs (omega arith) p e (λ m d. o (suc m) (λ c. d (omega (arith, c))))))
 
 -- The bytes of no agents and no rules are zero.
 blocks-zero : (w n : ℕ) (f : ℕ → List ℕ) → ((k : ℕ) → f k ≡ replicate w 0) → blocks n f ≡ replicate (w * n) 0
@@ -84,8 +84,8 @@ unfolding bytesOf pairBytes
 nothing-bytes =
     ap₂ (λ x y. 0 ∷ 0 ∷ 0 ∷ (x ++ y)) (blocks-zero agent-size symbols-max (rowOf agent-size agentBytes []) (λ k. row-past agent-size agentBytes [] k (omega arith)))
     (ap₂ _++_
-      (blocks-zero (2 * symbols-max) symbols-max (λ a. blocks symbols-max (λ b. foundBytes (find [] 0 a b))) (λ a. blocks-zero 2 symbols-max (λ b. foundBytes (find [] 0 a b)) (λ b. refl)))
-      (blocks-zero rule-size rules-max (rowOf rule-size ruleBytes []) (λ k. row-past rule-size ruleBytes [] k (omega arith)))
+    (blocks-zero (2 * symbols-max) symbols-max (λ a. blocks symbols-max (λ b. foundBytes (find [] 0 a b))) (λ a. blocks-zero 2 symbols-max (λ b. foundBytes (find [] 0 a b)) (λ b. refl)))
+    (blocks-zero rule-size rules-max (rowOf rule-size ruleBytes []) (λ k. row-past rule-size ruleBytes [] k (omega arith)))
     ∙ replicate-append-replicate (2 * symbols-max * symbols-max) (rule-size * rules-max) 0)
     ∙ ap (λ l. 0 ∷ 0 ∷ 0 ∷ l) (replicate-append-replicate (agent-size * symbols-max) (2 * symbols-max * symbols-max + rule-size * rules-max) 0)
 
@@ -130,7 +130,7 @@ agent-more t a h =
     let n : length (t .agents ++ (a ∷ [])) ≡ length (t .agents) + 1 = omega (arith, length-append (t .agents) (a ∷ [])) in
     ap (λ l. set l 0 (length (t .agents) + 1))
     (in-agents (countPart t) (agentPart t) (pairBytes (t .rules)) (rulePart t) refl (length-agents t) (length-pairs (t .rules)) (agent-size * length (t .agents)) (agentBytes a)
-      (omega (arith, length-agent a))
+    (omega (arith, length-agent a))
     ∙ ap (λ l. countPart t ++ (l ++ (pairBytes (t .rules) ++ rulePart t))) (row-put agent-size symbols-max agentBytes length-agent (t .agents) a h))
     ∙ ap (λ k. (k ∷ length (t .rules) % 256 ∷ length (t .rules) / 256 ∷ []) ++ (agentPart (with-agent a t) ++ (pairBytes (t .rules) ++ rulePart t))) (sym n)
 
@@ -172,12 +172,12 @@ grid-put F h a b vs q ha hb =
     let y : 2 * b ≡ 2 * b + 0 = omega arith in
     ap (λ n. sets (Grid F) n vs) z
     ∙ blocks-change (2 * symbols-max) symbols-max (λ x. blocks symbols-max (λ y. F x y)) (λ x. blocks symbols-max (λ y. put F a b vs x y))
-      (λ x. length-blocks 2 symbols-max (F x) (h x)) a (2 * b) vs ha (omega arith)
-      (ap (λ n. sets (blocks symbols-max (F a)) n vs) y
-      ∙ blocks-change 2 symbols-max (F a) (λ y. put F a b vs a y) (h a) b 0 vs hb (omega arith)
-        (sets-whole (F a b) vs (h a b ∙ sym q) ∙ sym (put-here F a b vs))
-        (λ y d. put-there F a b vs a y (λ p. d (p .1))))
-      (λ x d. blocks-cong symbols-max (F x) (λ y. put F a b vs x y) (λ y. put-there F a b vs x y (λ p. d (p .0))))
+    (λ x. length-blocks 2 symbols-max (F x) (h x)) a (2 * b) vs ha (omega arith)
+    (ap (λ n. sets (blocks symbols-max (F a)) n vs) y
+    ∙ blocks-change 2 symbols-max (F a) (λ y. put F a b vs a y) (h a) b 0 vs hb (omega arith)
+    (sets-whole (F a b) vs (h a b ∙ sym q) ∙ sym (put-here F a b vs))
+    (λ y d. put-there F a b vs a y (λ p. d (p .1))))
+    (λ x d. blocks-cong symbols-max (F x) (λ y. put F a b vs x y) (λ y. put-there F a b vs x y (λ p. d (p .0))))
 
 module _ (rs : List Entry) (e : Entry) (new : find rs 0 (e .left) (e .right) ≡ none) where
   found : ℕ → ℕ → List ℕ
@@ -211,20 +211,20 @@ module _ (rs : List Entry) (e : Entry) (new : find rs 0 (e .left) (e .right) ≡
 -- One rule more, whose pair had none.
 pub rule-more : (t : Table) (e : Entry) → find (t .rules) 0 (e .left) (e .right) ≡ none → length (t .rules) < rules-max → e .left < symbols-max → e .right < symbols-max
     → set (set (sets (sets (sets (bytesOf t) (rules-at + rule-size * length (t .rules)) (ruleBytes e))
-      (pairs-at + 2 * (symbols-max * e .right + e .left)) (length (t .rules) ∷ 2 ∷ [])) (pairs-at + 2 * (symbols-max * e .left + e .right)) (length (t .rules) ∷ 1 ∷ []))
-      1 ((length (t .rules) + 1) % 256)) 2 ((length (t .rules) + 1) / 256)
+    (pairs-at + 2 * (symbols-max * e .right + e .left)) (length (t .rules) ∷ 2 ∷ [])) (pairs-at + 2 * (symbols-max * e .left + e .right)) (length (t .rules) ∷ 1 ∷ []))
+    1 ((length (t .rules) + 1) % 256)) 2 ((length (t .rules) + 1) / 256)
     ≡ bytesOf (with-rule e t)
 unfolding bytesOf
 rule-more t e new h hl hr =
     let n : length (t .rules ++ (e ∷ [])) ≡ length (t .rules) + 1 = omega (arith, length-append (t .rules) (e ∷ [])) in
     ap (λ l. set (set l 1 ((length (t .rules) + 1) % 256)) 2 ((length (t .rules) + 1) / 256))
     (ap (λ l. sets (sets l (pairs-at + 2 * (symbols-max * e .right + e .left)) (length (t .rules) ∷ 2 ∷ [])) (pairs-at + 2 * (symbols-max * e .left + e .right)) (length (t .rules) ∷ 1 ∷ []))
-      (in-rules (countPart t) (agentPart t) (pairBytes (t .rules)) (rulePart t) refl (length-agents t) (length-pairs (t .rules)) (rule-size * length (t .rules)) (ruleBytes e)
-      ∙ ap (λ l. countPart t ++ (agentPart t ++ (pairBytes (t .rules) ++ l))) (row-put rule-size rules-max ruleBytes length-rule (t .rules) e h))
+    (in-rules (countPart t) (agentPart t) (pairBytes (t .rules)) (rulePart t) refl (length-agents t) (length-pairs (t .rules)) (rule-size * length (t .rules)) (ruleBytes e)
+    ∙ ap (λ l. countPart t ++ (agentPart t ++ (pairBytes (t .rules) ++ l))) (row-put rule-size rules-max ruleBytes length-rule (t .rules) e h))
     ∙ (ap (λ l. sets l (pairs-at + 2 * (symbols-max * e .left + e .right)) (length (t .rules) ∷ 1 ∷ []))
-      (in-pairs (countPart t) (agentPart t) (pairBytes (t .rules)) (rulePart (with-rule e t)) refl (length-agents t) (length-pairs (t .rules)) (2 * (symbols-max * e .right + e .left)) (length (t .rules) ∷ 2 ∷ []) (omega arith))
+    (in-pairs (countPart t) (agentPart t) (pairBytes (t .rules)) (rulePart (with-rule e t)) refl (length-agents t) (length-pairs (t .rules)) (2 * (symbols-max * e .right + e .left)) (length (t .rules) ∷ 2 ∷ []) (omega arith))
     ∙ (in-pairs (countPart t) (agentPart t) (sets (pairBytes (t .rules)) (2 * (symbols-max * e .right + e .left)) (length (t .rules) ∷ 2 ∷ [])) (rulePart (with-rule e t)) refl (length-agents t)
-        (length-sets (pairBytes (t .rules)) (2 * (symbols-max * e .right + e .left)) (length (t .rules) ∷ 2 ∷ []) ∙ length-pairs (t .rules))
-        (2 * (symbols-max * e .left + e .right)) (length (t .rules) ∷ 1 ∷ []) (omega arith)
+    (length-sets (pairBytes (t .rules)) (2 * (symbols-max * e .right + e .left)) (length (t .rules) ∷ 2 ∷ []) ∙ length-pairs (t .rules))
+    (2 * (symbols-max * e .left + e .right)) (length (t .rules) ∷ 1 ∷ []) (omega arith)
     ∙ ap (λ l. countPart t ++ (agentPart t ++ (l ++ rulePart (with-rule e t)))) (pairs-more (t .rules) e new hl hr))))
     ∙ ap (λ k. (length (t .agents) ∷ k % 256 ∷ k / 256 ∷ []) ++ (agentPart t ++ (pairBytes (t .rules ++ (e ∷ [])) ++ rulePart (with-rule e t)))) (sym n)

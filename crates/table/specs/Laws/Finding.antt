@@ -25,7 +25,7 @@ find-append (e ∷ rs) es i a b = go (both a b (e .left) (e .right)) (both a b (
     go : (d : Dec ((a ≡ e .left) × (b ≡ e .right))) (f : Dec ((a ≡ e .right) × (b ≡ e .left)))
         → find (rs ++ es) (suc i) a b ≡ orElse (find rs (suc i) a b) (find es (suc i + length rs) a b)
         → _≡_ {A = Found} (elim d [ yes p ↦ straight i e | no p ↦ elim f [ yes q ↦ turned i e | no q ↦ find (rs ++ es) (suc i) a b ] ])
-            (orElse (elim d [ yes p ↦ straight i e | no p ↦ elim f [ yes q ↦ turned i e | no q ↦ find rs (suc i) a b ] ]) (find es (i + suc (length rs)) a b))
+        (orElse (elim d [ yes p ↦ straight i e | no p ↦ elim f [ yes q ↦ turned i e | no q ↦ find rs (suc i) a b ] ]) (find es (i + suc (length rs)) a b))
     go (yes p) f h = refl
     go (no p) (yes q) h = refl
     go (no p) (no q) h = let z : i + suc (length rs) ≡ suc i + length rs = omega arith in rw z h

@@ -195,9 +195,9 @@ module _ (ags : List Agent) (good : all agentOk ags ≡ true) where
   pub rule-back : (e : Entry) → Fits ags e → entryOf ags (ruleBytes e) ≡ e
   unfolding entryOf ruleBytes
   rule-back e f = both-parts
-    (tab-list (e .body) (equationOf (ruleBytes e)) (name 0 := name 0)
-    (λ k h. ap₂ (λ a b. side a := side b) (side-in e (2 * k) (omega (arith, f .few))) (side-in e (1 + 2 * k) (omega (arith, f .few))) ∙ pairs-back (e .body) (name 0 := name 0) k h))
-    (tab-list (e .cells) (cellOf ags (ruleBytes e)) no-cell (cell-back e f))
+      (tab-list (e .body) (equationOf (ruleBytes e)) (name 0 := name 0)
+      (λ k h. ap₂ (λ a b. side a := side b) (side-in e (2 * k) (omega (arith, f .few))) (side-in e (1 + 2 * k) (omega (arith, f .few))) ∙ pairs-back (e .body) (name 0 := name 0) k h))
+      (tab-list (e .cells) (cellOf ags (ruleBytes e)) no-cell (cell-back e f))
     where
       both-parts : tab (length (e .body)) (equationOf (ruleBytes e)) ≡ e .body → tab (length (e .cells)) (cellOf ags (ruleBytes e)) ≡ e .cells
           → _≡_ {A = Entry} (record { left = e .left; right = e .right; body = tab (length (e .body)) (equationOf (ruleBytes e)); cells = tab (length (e .cells)) (cellOf ags (ruleBytes e)); fresh = e .fresh }) e

@@ -133,8 +133,8 @@ agents-back t f =
     ap (λ n. tab n (λ k. agentOf (agentRow (bytesOf t) k))) (symbols-in t)
     ∙ tab-list (t .agents) (λ k. agentOf (agentRow (bytesOf t) k)) no-agent
     (λ k h.
-      ap agentOf (agent-row t k (omega (arith, f .few)) ∙ row-at agent-size agentBytes (t .agents) k no-agent h)
-      ∙ agent-back (getD (t .agents) k no-agent) (all-at agentOk (t .agents) k no-agent (f .good) h))
+    ap agentOf (agent-row t k (omega (arith, f .few)) ∙ row-at agent-size agentBytes (t .agents) k no-agent h)
+    ∙ agent-back (getD (t .agents) k no-agent) (all-at agentOk (t .agents) k no-agent (f .good) h))
 
 pub record FitTable (t : Table) : Type 0 where
   pub agents : FitAgents (t .agents)
@@ -148,8 +148,8 @@ view-bytes t f = ap₂ (λ a r. record { agents = a; rules = r }) same
     (ap₂ (λ a n. tab n (λ k. entryOf a (ruleRow (bytesOf t) k))) same (rules-in t)
     ∙ tab-list (t .rules) (λ k. entryOf (t .agents) (ruleRow (bytesOf t) k)) no-entry
     (λ k h.
-      ap (entryOf (t .agents)) (rule-row t k (omega (arith, f .few)) ∙ row-at rule-size ruleBytes (t .rules) k no-entry h)
-      ∙ rule-back (t .agents) (f .agents .good) (getD (t .rules) k no-entry) (f .rules k h)))
+    ap (entryOf (t .agents)) (rule-row t k (omega (arith, f .few)) ∙ row-at rule-size ruleBytes (t .rules) k no-entry h)
+    ∙ rule-back (t .agents) (f .agents .good) (getD (t .rules) k no-entry) (f .rules k h)))
   where
     same : agentsIn (bytesOf t) ≡ t .agents
     same = agents-back t (f .agents)
