@@ -1,0 +1,8 @@
+-- What the proofs of several functions use.
+mod Classes
+mod Scans
+mod Cuts
+mod Compare
+mod Digits
+mod Steps
+mod Bounds

@@ -1,0 +1,6 @@
+-- What the places mean in the terms of the two texts.
+pub mod Placing
+pub mod Cutting
+pub mod Spelling
+pub mod Sizing
+pub mod Wording
