@@ -1,0 +1,66 @@
+-- `machine::fasten` meets its contract.
+use Rattle.machine.proofs.Wires.{name-small, cell-small, head-room, fasten-names, fasten-left, fasten-right, fasten-cells}
+use borrow.Author.Needs.{needs}
+use Rattle.machine.proofs.fasten.Statement.{statement}
+use Rattle.machine.proofs.fasten.Tie as tie
+
+enum-known-l : tie.Need-enum-known-l
+enum-known-l c = search needs
+
+enum-known-r : tie.Need-enum-known-r
+enum-known-r c = search needs
+
+fasten-names-requires : tie.Need-fasten-names-requires
+fasten-names-requires c κs = search (needs, name-small)
+
+enum-known-r-2 : tie.Need-enum-known-r-2
+enum-known-r-2 c = search needs
+
+tie-requires : tie.Need-tie-requires
+tie-requires c κs = search (needs, name-small, cell-small)
+
+enum-known-l-2 : tie.Need-enum-known-l-2
+enum-known-l-2 c = search needs
+
+enum-known-r-3 : tie.Need-enum-known-r-3
+enum-known-r-3 c = search needs
+
+tie-requires-2 : tie.Need-tie-requires-2
+tie-requires-2 c κs = search (needs, name-small, cell-small)
+
+enum-known-r-4 : tie.Need-enum-known-r-4
+enum-known-r-4 c = search needs
+
+put-at-head-requires : tie.Need-put-at-head-requires
+put-at-head-requires c κs = search (needs, head-room)
+
+returns : tie.Need-returns
+returns c = search (needs, fasten-names)
+
+returns-2 : tie.Need-returns-2
+returns-2 c = search (needs, fasten-left)
+
+returns-3 : tie.Need-returns-3
+returns-3 c = search (needs, fasten-right)
+
+returns-4 : tie.Need-returns-4
+returns-4 c = search (needs, fasten-cells)
+
+pub fasten-spec : {M : Type 1} → statement M
+fasten-spec =
+    tie.close
+    (tie.spec
+    enum-known-l
+    enum-known-r
+    fasten-names-requires
+    enum-known-r-2
+    tie-requires
+    enum-known-l-2
+    enum-known-r-3
+    tie-requires-2
+    enum-known-r-4
+    put-at-head-requires
+    returns
+    returns-2
+    returns-3
+    returns-4)
