@@ -8,7 +8,7 @@ use crate::bytes::letter;
 use crate::bytes::word_byte;
 
 // Whether two parts hold the same bytes.
-pub fn same<'a>(a: &'a [u8], b: &'a [u8]) -> bool
+pub fn same(a: &[u8], b: &[u8]) -> bool
     ensures { λ r. ⌜ r ≡ Bytes.same (now (a .entry)) (now (b .entry)) ⌝ }
 {
     if a.len() != b.len() {

@@ -1,37 +1,26 @@
 -- One law for each way out of the look-ups. Assumes nothing.
 use Prim.Native.Nat.{ℕ, suc, _+_, _-_, _*_, _<_, _≤_}
-use mathlib.Core.Path.{_≡_, refl, sym, ap, _∙_}
+use mathlib.Core.Path.{_≡_, refl, sym, _∙_}
 use mathlib.Core.Bool.{Bool, true, false, cond}
 use mathlib.Core.List.{List, [], _∷_}
 use native.Mathlib.Omega.{arith}
 use native.Mathlib.Nat.{sub-zero}
-use lib.Dec.{eqb}
-use lib.ListN.{length, getD, take, drop}
+use lib.ListN.{getD, take, drop}
 use borrow.Author.Tests.{eq-eqb, ne-eqb}
-use Rattle.parts.specs.Limits.{identifier-max, symbols-max}
+use Rattle.parts.specs.Limits.{identifier-max, symbols-max, agent-size}
 use Rattle.texts.specs.Bytes.{Word, same, indexOf}
 use Rattle.texts.specs.Books.{Agent}
-use Rattle.terms.specs.Layout.{agent-size}
-use Rattle.terms.specs.Agents.{untilZero, spellingAt, agentsFrom, agentsOf}
+use Rattle.scan.specs.Places.{place, is}
+use Rattle.scan.specs.Cutting.{upTo}
+use Rattle.terms.specs.Agents.{spellingAt, agentsFrom, agentsOf}
 use Rattle.terms.specs.Words.{found, entry, entriesFrom, entries}
 use Rattle.terms.specs.declared.words.Found.{Found}
 
--- what stands before the first zero is the beginning
-until-take : (a : List ℕ) → take (length (untilZero a)) a ≡ untilZero a
-unfolding untilZero
-until-take [] = refl
-until-take (x ∷ xs) = go (eqb x 0) (until-take xs)
-  where
-    go : (t : Bool) → take (length (untilZero xs)) xs ≡ untilZero xs
-        → take (length (cond t [] (x ∷ untilZero xs))) (x ∷ xs) ≡ cond t [] (x ∷ untilZero xs)
-    go true e = refl
-    go false e = ap (λ (l : List ℕ). x ∷ l) e
-
 pub agent-way : (bytes row part word : List ℕ) (at n : ℕ) {r : Bool} → row ≡ take identifier-max (drop at bytes)
-    → n ≡ length (untilZero row)
+    → n ≡ place (is 0) row
     → part ≡ take n (drop 0 row) → r ≡ same word part → r ≡ same word (spellingAt at bytes)
-unfolding spellingAt
-agent-way bytes row part word at n e m p q = q ∙ rw (p, m, until-take row, e)
+unfolding spellingAt upTo
+agent-way bytes row part word at n e m p q = q ∙ rw (p, m, e)
 
 -- the first k agents are passed
 pub record Looked (bytes : List ℕ) (w : Word) (k : ℕ) : Type 0 where

@@ -1,55 +1,18 @@
 -- What a store into a lent sheet does to its view. Assumes nothing.
-use Prim.Native.Nat.{ℕ, _+_, _-_, _*_, _<_, _≤_}
-use mathlib.Core.Path.{_≡_}
-use mathlib.Core.Bool.{true, false}
+use Prim.Native.Nat.{ℕ, _+_, _*_, _<_}
+use mathlib.Core.Path.{_≡_, sym}
 use mathlib.Core.List.{List}
 use native.Mathlib.Omega.{arith}
-use lib.Dec.{leb, ltb, eqb}
 use lib.ListN.{length, getD, set}
-use lib.Seq.{drop-set-add, take-set-lt, take-set-le, drop-set-lt, getD-take, getD-drop, getD-set-other, getD-set-same}
+use lib.Seq.{getD-set-same}
 use mir.Syntax.{w64}
 use mir.Val.{Fits}
-use borrow.Author.Tests.{leb-true, ltb-true, eqb-false}
 use Rattle.parts.specs.Limits.{arity-max, net-cells-max, net-names-max}
+use Rattle.parts.specs.Segments.{seg-get, seg-set, seg-behind, seg-count, seg-before, count-seg, count-count}
 use Rattle.terms.specs.Layout.{cells-at, names-at, symbols-at, arguments-at, places-at, sheet-size}
-use Rattle.terms.specs.Sheet.{seg, Sheet, view, begins, size, words, stored, counted-cells, counted-names, argued, opened, entered}
+use Rattle.terms.specs.Sheet.{Sheet, view, begins, size, words, stored, counted-cells, counted-names, argued, opened, entered}
 use Rattle.terms.specs.declared.sheet.Part.{Part}
 use Rattle.terms.specs.declared.sheet.Part.the-variants.{Symbols, Arguments, Places}
-
--- A part of the words, of n from number at. Tests of numerals stand as equations of truth values, which compute.
-module _ (at n : ℕ) (w : List ℕ) where
-  seg-read : (i : ℕ) → i < n → getD w (at + i) 0 ≡ getD (seg at n w) i 0
-  unfolding seg
-  seg-read i h = rw (getD-take, getD-drop)
-
-  seg-set : (i v : ℕ) → i < n → seg at n (set w (at + i) v) ≡ set (seg at n w) i v
-  unfolding seg
-  seg-set i v h = rw (drop-set-add, take-set-lt)
-
-  -- a store into another part, which begins at b, where that stands behind this one
-  seg-behind : (b i v : ℕ) → leb (at + n) b ≡ true → seg at n (set w (b + i) v) ≡ seg at n w
-  unfolding seg
-  seg-behind b i v h =
-      let e : b + i ≡ at + (b + i - at) = omega (arith, leb-true) in
-      let b : n ≤ b + i - at = omega (arith, leb-true) in
-      rw (e, drop-set-add, take-set-le)
-
-  -- a store of a count
-  seg-count : (j v : ℕ) → ltb j at ≡ true → seg at n (set w j v) ≡ seg at n w
-  unfolding seg
-  seg-count j v t = let l : j < at = ltb-true _ _ t in rw drop-set-lt
-
--- and where it stands before this one, and has m words
-seg-before : {m i : ℕ} → i < m → (at n : ℕ) (w : List ℕ) (b v : ℕ) → leb (b + m) at ≡ true
-    → seg at n (set w (b + i) v) ≡ seg at n w
-unfolding seg
-seg-before {m} {i} h at n w b v t = let l : b + i < at = omega (arith, leb-true) in rw drop-set-lt
-
-count-seg : (w : List ℕ) (b i v j : ℕ) → ltb j b ≡ true → getD (set w (b + i) v) j 0 ≡ getD w j 0
-count-seg w b i v j t = getD-set-other w (b + i) j v 0 (λ e. omega (arith, ltb-true))
-
-count-count : (w : List ℕ) (k v j : ℕ) → eqb j k ≡ false → getD (set w k v) j 0 ≡ getD w j 0
-count-count w k v j t = getD-set-other w k j v 0 (eqb-false j k t)
 
 ruleset apart = (seg-set, seg-behind, count-seg)
 
@@ -63,9 +26,9 @@ store Places w i v h = simp apart
 
 fetch : (p : Part) (w : List ℕ) (i : ℕ) → i < size p → getD w (begins p + i) 0 ≡ getD (words p (view w)) i 0
 unfolding view
-fetch Symbols w i h = seg-read symbols-at net-cells-max w i h
-fetch Arguments w i h = seg-read arguments-at (arity-max * net-cells-max) w i h
-fetch Places w i h = seg-read places-at (2 * net-names-max) w i h
+fetch Symbols w i h = sym (seg-get symbols-at net-cells-max w i h)
+fetch Arguments w i h = sym (seg-get arguments-at (arity-max * net-cells-max) w i h)
+fetch Places w i h = sym (seg-get places-at (2 * net-names-max) w i h)
 
 inside : (p : Part) (i : ℕ) → i < size p → begins p + i < sheet-size
 inside Symbols i h = omega arith

@@ -5,19 +5,14 @@ use mathlib.Core.Bool.{Bool, true, cond, not, _&&_}
 use mathlib.Core.List.{List, [], _∷_, _++_}
 use lib.ListN.{length, getD, take, drop, replicate}
 use lib.Dec.{eqb, leb}
-use Rattle.parts.specs.Limits.{identifier-max, symbols-max}
+use Rattle.parts.specs.Limits.{identifier-max, symbols-max, agent-size}
 use Rattle.texts.specs.Bytes.{Word, all}
 use Rattle.texts.specs.Books.{Agent}
-use Rattle.terms.specs.Layout.{agent-size}
+use Rattle.scan.specs.Cutting.{upTo}
 
--- the bytes before the first zero
-unfoldable pub untilZero : List ℕ → Word
-untilZero [] = []
-untilZero (b ∷ bs) = cond (eqb b 0) [] (b ∷ untilZero bs)
-
--- the spelling of the agent whose row begins at a place
+-- the spelling of the agent whose row begins at a place: the bytes before the first zero
 unfoldable pub spellingAt : ℕ → List ℕ → Word
-spellingAt at bytes = untilZero (take identifier-max (drop at bytes))
+spellingAt at bytes = upTo 0 (take identifier-max (drop at bytes))
 
 -- the rows from number k on, at most so many: the first whose last byte is 0 is no symbol's, and ends them
 unfoldable pub agentsFrom : ℕ → ℕ → List ℕ → List Agent

@@ -1,13 +1,6 @@
--- Sizes that follow from those of document 01: of a lent list of agents, and of a lent sheet with where each of its parts begins.
+-- The size of a lent sheet, and where each of its parts begins.
 use Prim.Native.Nat.{ℕ, _+_, _*_}
-use Rattle.parts.specs.Limits.{identifier-max, symbols-max, arity-max, net-cells-max, net-names-max}
-
--- an agent's row: its letters, and its arity + 1
-abbrev pub agent-size : ℕ
-agent-size = identifier-max + 1
-
-abbrev pub agents-size : ℕ
-agents-size = symbols-max * agent-size
+use Rattle.parts.specs.Limits.{arity-max, net-cells-max, net-names-max}
 
 -- a sheet: the two counts, a word for each cell's symbol, its arguments, and two words for each name
 abbrev pub cells-at : ℕ

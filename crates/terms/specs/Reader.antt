@@ -8,8 +8,9 @@ use Rattle.parts.specs.Limits.{text-max, identifier-max, arity-max, net-cells-m
 use Rattle.parts.specs.Sides.{name, cell, code}
 use Rattle.texts.specs.Bytes.{indexOf}
 use Rattle.texts.specs.Books.{Agent}
+use Rattle.scan.specs.Words.{wordEnd}
 use Rattle.terms.specs.Sheet.{Sheet, argued, opened, entered}
-use Rattle.terms.specs.Words.{wordEnd, found, entries}
+use Rattle.terms.specs.Words.{found, entries}
 use Rattle.terms.specs.declared.words.Found.{Found}
 use Rattle.terms.specs.declared.Got.{Got}
 use Rattle.terms.specs.declared.Head.{Head}

@@ -1,15 +1,12 @@
 -- A lent sheet as a record: what each of its words is, and each way in which one is written.
 use mathlib.Core.List.{List}
 use Prim.Native.Nat.{ℕ, _+_, _*_}
-use lib.ListN.{getD, take, drop, set}
+use lib.ListN.{getD, set}
 use Rattle.parts.specs.Limits.{arity-max, net-cells-max, net-names-max}
+use Rattle.parts.specs.Segments.{seg}
 use Rattle.terms.specs.Layout.{cells-at, names-at, symbols-at, arguments-at, places-at}
 use Rattle.terms.specs.declared.sheet.Part.{Part}
 use Rattle.terms.specs.declared.sheet.Part.the-variants.{Symbols, Arguments, Places}
-
--- n words of w from word number at
-unfoldable pub seg : ℕ → ℕ → List ℕ → List ℕ
-seg at n w = take n (drop at w)
 
 -- How many cells and names there are; of each cell the symbol + 1 and the codes of its arguments; of each name the place in the
 -- text where it first stands and its length, 0 where no spelling is meant.

@@ -4,7 +4,7 @@ use mathlib.Core.Path.{_≡_}
 use mathlib.Core.Bool.{cond}
 use mathlib.Core.List.{List, [], _∷_}
 use lib.ListN.{length, getD, take, drop}
-use Rattle.texts.specs.Bytes.{Word, same, wordByte}
+use Rattle.texts.specs.Bytes.{Word, same}
 use Rattle.texts.specs.Books.{Agent}
 use Rattle.terms.specs.declared.words.Found.{Found}
 
@@ -12,15 +12,6 @@ use Rattle.terms.specs.declared.words.Found.{Found}
 pub record ByteAt (text : List ℕ) (i b : ℕ) : Type 0 where
   pub is : b ≡ getD text i 0
   pub inside : b ≤ 255 * (length text - i)
-
--- how many word bytes a text begins with
-unfoldable pub span : List ℕ → ℕ
-span [] = 0
-span (b ∷ bs) = cond (wordByte b) (suc (span bs)) 0
-
--- where the word bytes that stand from `at` on end
-unfoldable pub wordEnd : List ℕ → ℕ → ℕ
-wordEnd text at = at + span (drop at text)
 
 -- the agent of a spelling, the first in the list being number k
 unfoldable pub found : ℕ → List Agent → Word → Found

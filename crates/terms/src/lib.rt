@@ -129,7 +129,7 @@ pub fn read_term(
     if levels == 0 {
         return Got::Wrong;
     }
-    let end = words::word_end(text, at);
+    let end = scan::words::word_end(text, at);
     if end == at {
         return Got::Wrong;
     }

@@ -15,9 +15,7 @@ pub struct Sheet {
 }
 
 impl Sheet {
-    pub const AGENT: usize = Limits::IDENTIFIER + 1;
-
-    pub const AGENTS: usize = Limits::SYMBOLS * Sheet::AGENT;
+    pub const AGENTS: usize = Limits::SYMBOLS * Limits::AGENT;
 
     pub const CELLS_AT: usize = 0;
 

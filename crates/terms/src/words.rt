@@ -4,44 +4,21 @@ use super::sheet::Sheet;
 use parts::Limits;
 use parts::NameNo;
 use parts::SymbolNo;
+use scan::cutting::find;
+use scan::words::same;
 ghost use mathlib.Core.Path.{_≡_};
 ghost use Prim.Native.Nat.{_+_, _-_, _*_, _<_, _≤_};
-ghost use lib.ListN.{length, take, drop};
+ghost use lib.ListN.{take, drop};
 ghost use Rattle.parts.specs.Limits.{net-names-max};
-ghost use Rattle.texts.specs.Bytes.{same, wordByte, indexOf};
+ghost use Rattle.texts.specs.Bytes as Bytes;
 ghost use Rattle.terms.specs.Sheet.{view};
-ghost use Rattle.terms.specs.Agents.{untilZero, spellingAt, agentsOf};
-ghost use Rattle.terms.specs.Words.{ByteAt, wordEnd, found, entry, entries};
+ghost use Rattle.terms.specs.Agents.{spellingAt, agentsOf};
+ghost use Rattle.terms.specs.Words.{ByteAt, found, entry, entries};
 
 // A declared agent, by its number and arity; or nothing of that spelling.
 pub enum Found {
     Agent { symbol: SymbolNo, arity: u16 },
     Nothing,
-}
-
-// Letters, digits, underscore.
-pub fn word_byte(b: u8) -> bool
-    ensures { λ r. ⌜ r ≡ wordByte b ⌝ }
-{
-    if b < b'0' {
-        return false;
-    }
-    if b <= b'9' {
-        return true;
-    }
-    if b < b'A' {
-        return false;
-    }
-    if b <= b'Z' {
-        return true;
-    }
-    if b == b'_' {
-        return true;
-    }
-    if b < b'a' {
-        return false;
-    }
-    b <= b'z'
 }
 
 // The byte at a place, or 0 past the end.
@@ -67,59 +44,14 @@ pub fn part(text: &[u8], at: usize, n: usize) -> &[u8]
     &text[at..at + n]
 }
 
-// Where the word bytes that stand from a place on end.
-pub fn word_end(text: &[u8], at: usize) -> usize
-    ensures { λ r. ⌜ r ≡ wordEnd (now (text .entry)) at ⌝ }
-{
-    let mut i = at;
-    while i < text.len() {
-        if !word_byte(text[i]) {
-            return i;
-        }
-        i += 1;
-    }
-    i
-}
-
-// Whether two words are the same, byte for byte.
-pub fn alike(a: &[u8], b: &[u8]) -> bool
-    ensures { λ r. ⌜ r ≡ same (now (a .entry)) (now (b .entry)) ⌝ }
-{
-    if a.len() != b.len() {
-        return false;
-    }
-    let mut i: usize = 0;
-    while i < a.len() {
-        if a[i] != b[i] {
-            return false;
-        }
-        i += 1;
-    }
-    true
-}
-
-// How many bytes stand before the first zero.
-pub fn before_zero(row: &[u8]) -> usize
-    ensures { λ r. ⌜ r ≡ length (untilZero (now (row .entry))) ⌝ }
-{
-    let mut i: usize = 0;
-    while i < row.len() {
-        if row[i] == 0 {
-            return i;
-        }
-        i += 1;
-    }
-    i
-}
-
 // Whether the agent whose row begins at a place is spelled so.
 pub fn agent_is(agents: &[u8], at: usize, word: &[u8]) -> bool
-    ensures { λ r. ⌜ r ≡ same (now (word .entry)) (spellingAt at (now (agents .entry))) ⌝ }
+    ensures { λ r. ⌜ r ≡ Bytes.same (now (word .entry)) (spellingAt at (now (agents .entry))) ⌝ }
 {
     let row = part(agents, at, Limits::IDENTIFIER);
-    let n = before_zero(row);
+    let n = find(row, 0);
     let spelling = part(row, 0, n);
-    alike(word, spelling)
+    same(word, spelling)
 }
 
 fn wide(b: u8) -> u16
@@ -134,7 +66,7 @@ pub fn find_agent(agents: &[u8], word: &[u8]) -> Found
 {
     let mut k: usize = 0;
     while k < Limits::SYMBOLS {
-        let at = Sheet::AGENT * k;
+        let at = Limits::AGENT * k;
         let a = byte_at(agents, at + Limits::IDENTIFIER);
         if a == 0 {
             return Found::Nothing;
@@ -154,18 +86,18 @@ pub fn find_agent(agents: &[u8], word: &[u8]) -> Found
 // Whether name k of the sheet is spelled so.
 pub fn name_is(text: &[u8], sheet: &[u16; Sheet::SIZE], k: u16, word: &[u8]) -> bool
     requires { ⌜ k < net-names-max ⌝ }
-    ensures { λ r. ⌜ r ≡ same (now (word .entry)) (entry (now (text .entry)) ((view (now (sheet .entry))) .places) k) ⌝ }
+    ensures { λ r. ⌜ r ≡ Bytes.same (now (word .entry)) (entry (now (text .entry)) ((view (now (sheet .entry))) .places) k) ⌝ }
 {
     let p = sheet::place(sheet, NameNo(k)) as usize;
     let n = sheet::long(sheet, NameNo(k)) as usize;
     let w = part(text, p, n);
-    alike(word, w)
+    same(word, w)
 }
 
 // The number of a word among the first n names of the sheet, or n.
 pub fn find_name(text: &[u8], sheet: &[u16; Sheet::SIZE], n: u16, word: &[u8]) -> u16
     requires { ⌜ n ≤ net-names-max ⌝ }
-    ensures { λ r. ⌜ r ≡ indexOf (now (word .entry)) (entries (now (text .entry)) ((view (now (sheet .entry))) .places) n) ⌝ }
+    ensures { λ r. ⌜ r ≡ Bytes.indexOf (now (word .entry)) (entries (now (text .entry)) ((view (now (sheet .entry))) .places) n) ⌝ }
 {
     let mut k: u16 = 0;
     while k < n {

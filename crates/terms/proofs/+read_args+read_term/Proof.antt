@@ -16,7 +16,7 @@ use Rattle.parts.proofs.encode.Reads as encode-reads
 use Rattle.terms.proofs.read_head.Reads as read-head-reads
 use Rattle.terms.proofs.sheet.set_argument.Reads as set-argument-reads
 use Rattle.terms.proofs.words.byte_at.Reads as byte-at-reads
-use Rattle.terms.proofs.words.word_end.Reads as word-end-reads
+use Rattle.scan.proofs.words.word_end.Reads as word-end-reads
 use Rattle.terms.proofs.+read_args+read_term.{statement}
 use Rattle.terms.proofs.+read_args+read_term.Tie.{close}
 

@@ -10,14 +10,13 @@ use lib.ListN.{length, getD, take, drop}
 use mir.Syntax.{w16}
 use mir.Val.{Fits}
 use borrow.Author.Tests.{lt-ltb, le-ltb, le-leb, lt-leb, ltb-true, ltb-false, leb-true, leb-false}
-use Rattle.parts.specs.Limits.{text-max, identifier-max, symbols-max, arity-max, net-cells-max, net-names-max}
+use Rattle.parts.specs.Limits.{text-max, identifier-max, symbols-max, arity-max, net-cells-max, net-names-max, agent-size}
 use Rattle.parts.specs.Sides.{name, cell, code}
 use Rattle.parts.specs.declared.CellNo.{CellNo}
 use Rattle.parts.specs.declared.SymbolNo.{SymbolNo}
 use Rattle.texts.specs.Bytes.{Word, same, indexOf}
 use Rattle.texts.specs.Books.{Agent}
 use Rattle.texts.specs.Proofs.Tools.{both}
-use Rattle.terms.specs.Layout.{agent-size}
 use Rattle.terms.specs.Sheet.{Sheet, opened, entered}
 use Rattle.terms.specs.Agents.{spellingAt, agentsFrom, agentsOf}
 use Rattle.terms.specs.Words.{found, entries}

@@ -17,7 +17,7 @@ use Rattle.texts.specs.Coded.{symbolOf}
 use Rattle.texts.specs.RuleText.{wrongArgs}
 use Rattle.texts.specs.Proofs.Tools.{both, any-append, noneOf}
 use Rattle.terms.specs.Sheet.{Sheet, argued, opened}
-use Rattle.terms.specs.Words.{wordEnd}
+use Rattle.scan.specs.Words.{wordEnd}
 use Rattle.terms.specs.Reader.{Done, done, nameBy, taking, cellBy, foundBy, headBy, onRead, lastArg, nextArg, argsBy, afterHead, withHead, termBy}
 use Rattle.terms.specs.Meaning.{Stops}
 use Rattle.terms.specs.Proofs.Numbers.{found-agent, found-none, takes-none}

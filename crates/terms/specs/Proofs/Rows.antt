@@ -8,25 +8,26 @@ use lib.Dec.{eqb, leb}
 use lib.ListN.{length, getD, drop, replicate, length-append, length-replicate}
 use lib.Seq.{drop-drop, drop-at, take-at, getD-at, getD-drop}
 use borrow.Author.Tests.{leb-true, ne-eqb, eq-eqb, not-true}
-use Rattle.parts.specs.Limits.{identifier-max, symbols-max}
+use Rattle.parts.specs.Limits.{identifier-max, symbols-max, agent-size}
 use Rattle.texts.specs.Bytes.{Word, all}
 use Rattle.texts.specs.Books.{Agent}
 use Rattle.texts.specs.Proofs.Tools.{both}
-use Rattle.terms.specs.Layout.{agent-size}
-use Rattle.terms.specs.Agents.{untilZero, spellingAt, agentsFrom, agentsOf, rowOf, rowsOf, lettered, Listed}
+use Rattle.scan.specs.Places.{place}
+use Rattle.scan.specs.Cutting.{upTo}
+use Rattle.terms.specs.Agents.{spellingAt, agentsFrom, agentsOf, rowOf, rowsOf, lettered, Listed}
 
 zeros-get : (n i : ℕ) → _≡_ {A = ℕ} (getD (replicate n 0) i 0) 0
 zeros-get zero i = refl
 zeros-get (suc n) zero = refl
 zeros-get (suc n) (suc i) = zeros-get n i
 
-until-zeros : (n : ℕ) → untilZero (replicate n 0) ≡ []
-unfolding untilZero
+until-zeros : (n : ℕ) → upTo 0 (replicate n 0) ≡ []
+unfolding upTo place
 until-zeros zero = refl
 until-zeros (suc n) = refl
 
-until-filled : (w : Word) (n : ℕ) → all (λ b. not (eqb b 0)) w ≡ true → untilZero (w ++ replicate n 0) ≡ w
-unfolding untilZero all
+until-filled : (w : Word) (n : ℕ) → all (λ b. not (eqb b 0)) w ≡ true → upTo 0 (w ++ replicate n 0) ≡ w
+unfolding upTo place all
 until-filled [] n h = until-zeros n
 until-filled (b ∷ bs) n h =
     let p = both (not (eqb b 0)) (all (λ c. not (eqb c 0)) bs) h in

@@ -1,17 +1,17 @@
 -- What stands in a text from a place on: words, and the bytes after them. Assumes nothing.
 use Prim.Native.Nat.{ℕ, _+_, _-_, _<_}
 use mathlib.Core.Path.{_≡_, refl, sym, ap, _∙_}
-use mathlib.Core.Bool.{Bool, true, false, _&&_, _||_}
+use mathlib.Core.Bool.{true, false, not}
 use mathlib.Core.List.{List, [], _∷_, _++_}
 use native.Mathlib.Omega.{arith}
-use lib.Dec.{eqb}
 use lib.ListN.{length, getD, take, drop, length-append, length-drop, List·getD-eq-default}
 use lib.Seq.{drop-drop, drop-append-seam, take-append-seam, getD-drop}
 use Rattle.texts.specs.Bytes.{Word, all, letter, digit, wordByte}
 use Rattle.texts.specs.Terms.{identifier}
 use Rattle.texts.specs.Proofs.Spelling.{identifier-bytes}
 use Rattle.texts.specs.Proofs.Tools.{never, both}
-use Rattle.terms.specs.Words.{span, wordEnd}
+use Rattle.scan.specs.Places.{place}
+use Rattle.scan.specs.Words.{wordEnd}
 use Rattle.terms.specs.Meaning.{Stops}
 
 -- what stands from a place on
@@ -57,8 +57,8 @@ pub open-ends : (b : List ℕ) → Ends (40 ∷ b)
 unfolding Ends wordByte letter digit
 open-ends b = refl
 
-word-span : (w rest : List ℕ) → all wordByte w ≡ true → Ends rest → span (w ++ rest) ≡ length w
-unfolding span all Ends
+word-span : (w rest : List ℕ) → all wordByte w ≡ true → Ends rest → place (λ b. not (wordByte b)) (w ++ rest) ≡ length w
+unfolding place all Ends
 word-span [] [] ok e = refl
 word-span [] (x ∷ xs) ok e = rw e
 word-span (x ∷ xs) rest ok e =
@@ -72,7 +72,6 @@ identifier-some (b ∷ bs) h = omega arith
 
 module _ (text : List ℕ) (at : ℕ) (w rest : List ℕ) (ok : identifier w ≡ true) (e : drop at text ≡ w ++ rest) where
   pub word-ends : Ends rest → at + length w ≡ wordEnd text at
-  unfolding wordEnd
   word-ends h = rw (e, word-span w rest (identifier-bytes w ok) h)
 
   pub word-here : take (at + length w - at) (drop at text) ≡ w

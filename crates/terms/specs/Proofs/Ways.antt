@@ -10,15 +10,14 @@ use Rattle.parts.specs.Limits.{level-max}
 use Rattle.parts.specs.Sides.{cell, code}
 use Rattle.parts.specs.declared.CellNo.{CellNo}
 use Rattle.texts.specs.Books.{Agent}
+use Rattle.scan.specs.Words.{wordEnd}
 use Rattle.terms.specs.Sheet.{Sheet, argued}
-use Rattle.terms.specs.Words.{wordEnd}
 use Rattle.terms.specs.Reader.{Done, done, Reader, headBy, onRead, lastArg, nextArg, argsBy, afterHead, withHead, termBy, whole, fieldBy}
 use Rattle.terms.specs.declared.Got.{Got}
 use Rattle.terms.specs.declared.Head.{Head}
 use Rattle.terms.specs.declared.Field.{Field}
 
 pub at-word-end : (text : List ℕ) (at : ℕ) {e : ℕ} → e ≡ wordEnd text at → at ≤ e
-unfolding wordEnd
 at-word-end text at h = omega arith
 
 -- arguments

@@ -19,8 +19,8 @@ cast-n c = search needs
 part-requires : tie.Need-part-requires
 part-requires c κs = search needs
 
-alike-requires : tie.Need-alike-requires
-alike-requires c κs = search needs
+same-requires : tie.Need-same-requires
+same-requires c κs = search needs
 
 returns : tie.Need-returns
 returns c = search (needs, name-way)
@@ -28,4 +28,4 @@ returns c = search (needs, name-way)
 pub name-is-spec : {M : Type 1} → statement M
 name-is-spec =
     tie.close
-    (tie.spec place-requires cast-p long-requires cast-n part-requires alike-requires returns)
+    (tie.spec place-requires cast-p long-requires cast-n part-requires same-requires returns)
