@@ -88,7 +88,7 @@ unpaired-tab (ℕ.suc n) g =
     ap₂ (λ a b. side (g a) := side (g b)) y x))
     ∙ unpaired-tab n (λ k. g (suc (suc k))))))
 
-sides-of : (ags : List Agent) (r : List ℕ) → map code (unpaired ((entryOf ags r) .body)) ≡ tab (2 * getD r 2 0) (λ k. getD r (sides-in + k) 0)
+pub sides-of : (ags : List Agent) (r : List ℕ) → map code (unpaired ((entryOf ags r) .body)) ≡ tab (2 * getD r 2 0) (λ k. getD r (sides-in + k) 0)
 unfolding entryOf
 sides-of ags r = unpaired-tab (getD r 2 0) (λ k. getD r (sides-in + k) 0)
 

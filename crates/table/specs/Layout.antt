@@ -53,6 +53,9 @@ word (suc b ∷ bs) = suc b ∷ word bs
 unfoldable pub agentOf : List ℕ → Agent
 agentOf r = record { symbol = word (take identifier-max r); arity = pred (getD r identifier-max 0) }
 
+unfoldable pub agentAt : List ℕ → ℕ → Agent
+agentAt w s = agentOf (agentRow w s)
+
 -- Equation k and cell k of a rule's row. A cell has as many arguments as its symbol.
 abbrev pub equationOf : List ℕ → ℕ → Pair
 equationOf r k = side (getD r (sides-in + 2 * k) 0) := side (getD r (sides-in + (1 + 2 * k)) 0)
@@ -82,8 +85,12 @@ rulesIn w = getD w count-at 0 + 256 * getD w (count-at + 1) 0
 unfoldable pub agentsIn : List ℕ → List Agent
 agentsIn w = tab (getD w symbols-at 0) (λ k. agentOf (agentRow w k))
 
+-- The rule with a number.
+abbrev pub entryAt : List ℕ → ℕ → Entry
+entryAt w k = entryOf (agentsIn w) (ruleRow w k)
+
 unfoldable pub view : List ℕ → Table
-view w = record { agents = agentsIn w; rules = tab (rulesIn w) (λ k. entryOf (agentsIn w) (ruleRow w k)) }
+view w = record { agents = agentsIn w; rules = tab (rulesIn w) (entryAt w) }
 
 -- The rows that a table has.
 unfoldable pub agentBytes : Agent → List ℕ

@@ -1,5 +1,6 @@
 -- Lists by number: what stands at each number, blocks of one length laid end to end, and rows that are zero where there is nothing.
 use Prim.Native.Nat.{ℕ, zero, suc}
+use mathlib.Core.Bool.{Bool, true, _&&_}
 use mathlib.Core.List.{List, [], _∷_, _++_}
 use lib.ListN.{getD, replicate}
 
@@ -7,6 +8,11 @@ use lib.ListN.{getD, replicate}
 unfoldable pub tab : {A : Type 0} → ℕ → (ℕ → A) → List A
 tab zero f = []
 tab (suc n) f = f 0 ∷ tab n (λ k. f (suc k))
+
+-- a test that holds at each number below n
+unfoldable pub each : ℕ → (ℕ → Bool) → Bool
+each zero p = true
+each (suc n) p = each n p && p n
 
 -- the lists f 0, f 1 and so on, n of them, end to end
 unfoldable pub blocks : ℕ → (ℕ → List ℕ) → List ℕ

@@ -13,6 +13,9 @@ use Rattle.table.specs.Layout.{count-at, pairs-at, rules-at}
 abbrev pub no-table : Table
 no-table = record { agents = []; rules = [] }
 
+abbrev pub only-agents : List Agent → Table
+only-agents ags = record { agents = ags; rules = [] }
+
 abbrev pub agent : Word → ℕ → Agent
 agent w n = record { symbol = w; arity = n }
 

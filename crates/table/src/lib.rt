@@ -1,11 +1,13 @@
 // The lent rule table: one array of bytes, its places, rules by value and in place, writers, and the test of a table.
-ghost use mathlib.Core.Path.{_≡_};
-ghost use Prim.Native.Nat.{ℕ, _+_, _*_, _-_, _<_, _≤_};
-ghost use lib.ListN.{length};
 use parts::Limits;
 
 pub mod reading; // reading.rt: what stands in a table
 pub mod writing; // writing.rt: an empty table, one agent more, one rule more
+pub mod agents; // agents.rt: the test of the agents
+pub mod codes; // codes.rt: the codes of a rule, gathered and counted
+pub mod walking; // walking.rt: cells and new names in reading order
+pub mod selves; // selves.rt: a rule of a symbol with itself
+pub mod sound; // sound.rt: the test of a rule and of a table
 
 // Where each part begins. The counts stand first.
 pub struct Layout {
@@ -27,6 +29,9 @@ impl Layout {
     pub const SIDES_IN: usize = 5;
 
     pub const NODES_IN: usize = Layout::SIDES_IN + 2 * Limits::RULE_EQUATIONS;
+
+    // How many sides a rule has at most: those of its equations, and the arguments of its cells.
+    pub const SIDES: usize = 2 * Limits::RULE_EQUATIONS + Limits::ARITY * Limits::RULE_CELLS;
 }
 
 // A rule: the symbols of its left side, how many equations, cells and new names its right side has, the codes of the equations' sides, and of

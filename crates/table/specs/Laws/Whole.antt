@@ -155,7 +155,7 @@ view-bytes t f = ap₂ (λ a r. record { agents = a; rules = r }) same
     same = agents-back t (f .agents)
 
 -- A table that passes its test fits.
-tested-agents : (seen bs : List Agent) → testAgents seen bs ≡ true → all agentOk bs ≡ true
+pub tested-agents : (seen bs : List Agent) → testAgents seen bs ≡ true → all agentOk bs ≡ true
 unfolding testAgents all
 tested-agents seen [] h = refl
 tested-agents seen (a ∷ bs) h =
