@@ -1,0 +1,5 @@
+pub mod Clauses
+pub mod Lent
+pub mod Totals
+pub mod Verdict
+pub mod Walks
