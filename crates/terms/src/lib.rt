@@ -195,7 +195,7 @@ pub fn read_field(
     text: &[u8],
     from: usize,
     to: usize,
-    agents: &[u8; Sheet::AGENTS],
+    agents: &[u8],
     sheet: &mut [u16; Sheet::SIZE],
 ) -> Field
     ensures { λ r. ⌜ done r (view (now (sheet .exit))) ≡ fieldBy (now (text .entry)) (agentsOf (now (agents .entry))) from to (view (now (sheet .entry))) ⌝ }
