@@ -1,0 +1,10 @@
+-- The answer of an ended net: pages to read, and the proofs beneath them.
+pub mod Answer
+pub mod Collected
+pub mod Printer
+pub mod Text
+pub mod Printing
+pub mod PrintingLaws
+pub mod Proofs
+pub mod Main
+pub mod Cases

@@ -1,0 +1,135 @@
+-- The theorems on the answer, in one place.
+use mathlib.Core.Path.{_≡_, sym, _∙_, ap, subst}
+use mathlib.Core.List.{List, map}
+use mathlib.Core.Option.{some}
+use Prim.Native.Nat.{ℕ, _+_, _≤_}
+use lib.ListN.{length, length-map}
+use Rattle.calculus.specs.Terms.{Sort, Tree, Conf, sub-eqn, ren}
+use Rattle.calculus.specs.Calculus.{Book, Label, Step, Valid}
+use Rattle.calculus.specs.Calculus as Calculus
+use Rattle.calculus.specs.Descent.{Steps, Normal}
+use Rattle.calculus.specs.Nets.{_≈_}
+use Rattle.calculus.specs.Proofs.Ended.{All}
+use Rattle.model.specs.State.{St}
+use Rattle.model.specs.Table.{Table}
+use Rattle.model.specs.Sound.{SoundTable, Sound, meaning}
+use Rattle.model.specs.Walk.{Walk}
+use Rattle.model.specs.AtEnd.{ended-normal}
+use Rattle.model.specs.Proofs.Walks.{sound-valid}
+use Rattle.texts.specs.Books.{Agent}
+use Rattle.texts.specs.Terms.{spell}
+use Rattle.texts.specs.Proofs.Reader.{termOf}
+use Rattle.texts.specs.Main.{table-machine}
+use Rattle.texts.specs.Coded as Coded
+use Rattle.texts.specs.Good as Good
+use Rattle.answers.specs.Answer.{Reader, read, stuck, agents, net-agents, answer, Answer, Same}
+use Rattle.answers.specs.Printer.{state-answer}
+use Rattle.answers.specs.Text.{texts, face-line, answer-text, answer-bytes}
+use Rattle.answers.specs.Printing.{answer-written}
+use Rattle.answers.specs.Collected.{Collected, Substituted}
+use Rattle.answers.specs.Proofs.Collecting.{collected}
+use Rattle.answers.specs.Proofs.Substituting.{substituted}
+use Rattle.answers.specs.Proofs.ReadBack.{answer-reads}
+use Rattle.answers.specs.Proofs.Whole as Whole
+use Rattle.answers.specs.Proofs.Same as Nets
+use Rattle.answers.specs.Proofs.Tonnage as Tonnage
+use Rattle.answers.specs.Proofs.StateAnswer.{state-is-net}
+use Rattle.answers.specs.Proofs.AnswerBytes.{bytes-of-answer, knot-of-answer}
+
+-- The number that bounds a reading does not matter if it is not below the number of the equations left.
+pub enough : (n m : ℕ) {s : Sort} (t : Tree s) (S : Reader) → length (S .left) ≤ n → length (S .left) ≤ m
+    → read n t S ≡ read m t S
+enough n m t S a b = Whole.read-enough n m t S a b
+
+-- Each agent of a net is printed once, or it is in the knot: nothing vanishes from the answer.
+pub all-told : (C : Conf) → agents ((answer C) .face) + agents ((answer C) .pairs) + (answer C) .knot ≡ net-agents C
+all-told C = Whole.all-told C
+
+-- Nets that are one up to names, order and sides, at an end, have the same interface and as many stuck pairs, loops
+-- and agents in the knot.
+pub same-answer : {B : Book} {C D : Conf} → Normal (Step B) D → C ≈ D → Same (answer C) (answer D)
+same-answer n h = Nets.same-answer n h
+
+-- If their stuck pairs are also in one order, each with the same side first, the answers are one altogether.
+pub one-answer : {B : Book} {C D : Conf} → Normal (Step B) D → (h : C ≈ D)
+    → map (sub-eqn (ren (h .names-by .to))) (stuck (C .eqs)) ≡ stuck (D .eqs) → answer C ≡ answer D
+one-answer n h e = Nets.one-answer n h e
+
+-- BY WHICH PUBLISHED RULES IS THE END READ? The interface by Collects, as long as one applies; the stuck pairs by
+-- Substitutions into them. The names left are then numbered by first meeting. A tie that is never met, as on a circle
+-- of ties, is put into nothing: it stays, and its agents are the knot.
+abbrev pub interface-collected : {B : Book} {C : Conf} → Valid C → Normal (Step B) C → Collected C
+interface-collected {C = C} v n = collected C v (Nets.once n)
+
+pub pairs-substituted : {B : Book} {C : Conf} (v : Valid C) (n : Normal (Step B) C)
+    → Substituted C (interface-collected v n)
+pairs-substituted {C = C} v n = substituted C v (Nets.once n)
+
+-- CAN ONE SHIP GET TWO TONNAGES? Two sequences of steps of the calculus from one valid net to ends: no.
+pub one-tonnage : {B : Book} → Calculus.Sound B → {C N D : Conf} {M M′ : List Label} → Valid C
+    → Steps (Step B) C M N → Normal (Step B) N → Steps (Step B) C M′ D → Normal (Step B) D
+    → Same (answer D) (answer N)
+one-tonnage S v w n w′ m = Tonnage.one-tonnage S v w n w′ m
+
+module _ {T : Table} (t : SoundTable T) where
+  -- Two walks of the machine from one sound state, whatever was picked at each step, to where nothing waits: no.
+  pub no-two-tonnages : {s s₁ s₂ : St} → Sound T s
+      → Walk T s s₁ → s₁ .waiting .used ≡ 0 → (h₁ : Sound T s₁)
+      → Walk T s s₂ → s₂ .waiting .used ≡ 0 → (h₂ : Sound T s₂)
+      → Same (answer (meaning h₁)) (answer (meaning h₂))
+  no-two-tonnages h w e h₁ v f h₂ = Tonnage.no-two-tonnages t h w e h₁ v f h₂
+
+  -- The answer told of the arrays of a sound ended state is the answer of the net that the state stands for.
+  pub state-printed : {s : St} (h : Sound T s) → s .waiting .used ≡ 0 → state-answer T s ≡ answer (meaning h)
+  state-printed h e = state-is-net t h e
+
+  -- So two ended walks from one sound state have the same answer, told of their arrays.
+  pub states-agree : {s s₁ s₂ : St} → Sound T s
+      → Walk T s s₁ → s₁ .waiting .used ≡ 0 → Sound T s₁
+      → Walk T s s₂ → s₂ .waiting .used ≡ 0 → Sound T s₂
+      → Same (state-answer T s₁) (state-answer T s₂)
+  states-agree h w e h₁ v f h₂ =
+      let r = no-two-tonnages h w e h₁ v f h₂ in
+      let p = state-printed h₁ e in
+      let q = state-printed h₂ f in
+      record {
+        face = ap (λ A. A .face) p ∙ r .face ∙ sym (ap (λ A. A .face) q);
+        stuck = ap (λ A. A .stuck) p ∙ r .stuck ∙ sym (ap (λ A. A .stuck) q);
+        loops = ap (λ A. A .loops) p ∙ r .loops ∙ sym (ap (λ A. A .loops) q);
+        knot = ap (λ A. A .knot) p ∙ r .knot ∙ sym (ap (λ A. A .knot) q);
+      }
+
+  -- And that net is read by the published rules.
+  pub state-read : {s : St} (h : Sound T s) → s .waiting .used ≡ 0
+      → (c : Collected (meaning h)) × Substituted (meaning h) c
+  state-read h e =
+      let v = sound-valid t h in
+      let n = ended-normal t h e in (interface-collected v n, pairs-substituted v n)
+
+  -- The byte printer prints that answer, and the cells that it leaves are the knot.
+  pub bytes-printed : (ags : List Agent) {s : St} → Sound T s → s .waiting .used ≡ 0
+      → ((answer-written ags T s) .bytes ≡ answer-bytes ags T s)
+      × ((answer-written ags T s) .after .left ≡ (state-answer T s) .knot)
+  unfolding answer-bytes
+  bytes-printed ags h e = (
+    bytes-of-answer ags t h e ∙ ap (answer-text ags) (sym (state-is-net t h e)),
+    knot-of-answer ags t h e ∙ ap (λ A. A .knot) (sym (state-is-net t h e)),
+  )
+
+-- Where the answers are the same, the `face` lines are the same to the byte.
+pub same-line : (ags : List Agent) {A B : Answer} → Same A B → face-line ags (A .face) ≡ face-line ags (B .face)
+same-line ags h = ap (face-line ags) (h .face)
+
+-- Each term that is printed reads back as the term that it is.
+pub printed-reads : (tab : Coded.Table) → Good.SoundTable tab → {s : St} → Sound (Coded.machine tab) s
+    → s .waiting .used ≡ 0
+    → All (λ u. termOf (spell u) ≡ some u) (texts (tab .agents) ((state-answer (Coded.machine tab) s) .face))
+    × All (λ u. termOf (spell u) ≡ some u) (texts (tab .agents) ((state-answer (Coded.machine tab) s) .pairs))
+unfolding Coded.machine
+printed-reads tab k {s} h e =
+    let p = table-machine tab .0 k in
+    let r = answer-reads (tab .agents) (p .0) (p .1) (length-map (tab .agents) (λ a. a .arity)) h e in
+    let q = state-is-net (p .1) h e in (
+      subst (λ A. All (λ u. termOf (spell u) ≡ some u) (texts (tab .agents) (A .face))) (sym q) (r .0),
+      subst (λ A. All (λ u. termOf (spell u) ≡ some u) (texts (tab .agents) (A .pairs))) (sym q) (r .1),
+    )
