@@ -3,6 +3,8 @@ use mathlib.Core.Path.{_≡_, refl}
 use mathlib.Core.List.{List, [], _∷_, _++_, map}
 use Prim.Native.Nat.{ℕ}
 use native.Mathlib.Decide.{ℕ-discrete, decLt, decLe}
+use native.Mathlib.Omega.{arith}
+use Rattle.calculus.specs.Proofs.Count.{δ-same}
 use Rattle.calculus.specs.Terms.{var, node, nil, cons, Term, _==_, Conf, if-eq}
 use Rattle.parts.specs.Sides.{side}
 use Rattle.model.specs.Step.{stepped}
@@ -14,6 +16,8 @@ use Rattle.texts.specs.Bytes.{decimal, textOf, tabbed, lineOf}
 use Rattle.texts.specs.Terms.{spell, brackets, closing}
 use Rattle.texts.specs.Books.{Agent, pairs, wordFace, wordEq, writeFace, writeEquation}
 use Rattle.answers.specs.Answer.{Answer, answer}
+use Rattle.answers.specs.Knots.{Hangs, here, more, Behind}
+use Rattle.answers.specs.Proofs.Ties.{tied-head}
 use Rattle.answers.specs.Printer.{state-answer}
 use Rattle.answers.specs.Text.{spelling, numeral, answer-text, answer-bytes}
 
@@ -76,6 +80,10 @@ S t = node 1 (cons t nil)
 abbrev Z : Term
 Z = node 2 nil
 
+abbrev behind-one : Conf
+behind-one =
+    record { face = nil; eqs = (var 4 == node 0 (cons (var 4) (cons (var 6) nil))) ∷ (var 6 == Z) ∷ [] }
+
 abbrev pub nets : List Conf
 nets =
     -- P8 face x x
@@ -96,6 +104,8 @@ nets =
       face = nil;
       eqs = (Z == S Z) ∷ (S (var 4) == Z) ∷ (var 4 == S (var 6)) ∷ (var 6 == Z) ∷ (var 8 == S (S (var 8))) ∷ [];
     }
+    -- x = add(x,w), w = Z: a circle of one tie, and a tie behind it
+    ∷ behind-one
     ∷ []
 
 abbrev pub answers : List Answer
@@ -118,8 +128,19 @@ answers =
       loops = 0;
       knot = 2;
     }
+    ∷ record { face = nil; pairs = nil; stuck = 0; loops = 0; knot = 2 }
     ∷ []
 
 pub the-answers : map answer nets ≡ answers
 unfolding if-eq ℕ-discrete
 the-answers = refl
+
+-- In the last of them the tie of w hangs on that of x, which is on a circle.
+pub tie-behind : Behind (behind-one .eqs) 6
+tie-behind = record { top = 4; way = more hangs here; circle = record { above = 4; first = round; round = here } }
+  where
+    hangs : Hangs (behind-one .eqs) 6 4
+    hangs = record { tie = tied-head 4 0 (cons (var 4) (cons (var 6) nil)) ((var 6 == Z) ∷ []); inside = omega (arith, δ-same 6) }
+
+    round : Hangs (behind-one .eqs) 4 4
+    round = record { tie = tied-head 4 0 (cons (var 4) (cons (var 6) nil)) ((var 6 == Z) ∷ []); inside = omega (arith, δ-same 4) }

@@ -1,6 +1,7 @@
 -- The answer of an ended net: pages to read, and the proofs beneath them.
 pub mod Answer
 pub mod Collected
+pub mod Knots
 pub mod Printer
 pub mod Text
 pub mod Printing

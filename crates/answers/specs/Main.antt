@@ -1,32 +1,38 @@
 -- The theorems on the answer, in one place.
 use mathlib.Core.Path.{_≡_, sym, _∙_, ap, subst}
-use mathlib.Core.List.{List, map}
+use mathlib.Core.List.{List, _++_, map}
+use mathlib.Core.Logic.{_⊎_}
 use mathlib.Core.Option.{some}
 use Prim.Native.Nat.{ℕ, _+_, _≤_}
 use lib.ListN.{length, length-map}
-use Rattle.calculus.specs.Terms.{Sort, Tree, Conf, sub-eqn, ren}
-use Rattle.calculus.specs.Calculus.{Book, Label, Step, Valid}
+use Rattle.calculus.specs.Terms.{Sort, Tree, Eqn, Conf, _∼_, sub-eqn, ren}
+use Rattle.calculus.specs.Calculus.{Book, Label, Step, Valid, Closed}
 use Rattle.calculus.specs.Calculus as Calculus
 use Rattle.calculus.specs.Descent.{Steps, Normal}
 use Rattle.calculus.specs.Nets.{_≈_}
 use Rattle.calculus.specs.Proofs.Ended.{All}
+use Rattle.parts.specs.Limits.{names-max}
 use Rattle.model.specs.State.{St}
 use Rattle.model.specs.Table.{Table}
 use Rattle.model.specs.Sound.{SoundTable, Sound, meaning}
 use Rattle.model.specs.Walk.{Walk}
 use Rattle.model.specs.AtEnd.{ended-normal}
 use Rattle.model.specs.Proofs.Walks.{sound-valid}
+use Rattle.model.specs.Proofs.Frame.{good-of}
+use Rattle.model.specs.Proofs.Wired.{good-closed}
 use Rattle.texts.specs.Books.{Agent}
 use Rattle.texts.specs.Terms.{spell}
 use Rattle.texts.specs.Proofs.Reader.{termOf}
 use Rattle.texts.specs.Main.{table-machine}
 use Rattle.texts.specs.Coded as Coded
 use Rattle.texts.specs.Good as Good
-use Rattle.answers.specs.Answer.{Reader, read, stuck, agents, net-agents, answer, Answer, Same}
+use Rattle.answers.specs.Answer.{Reader, read, stuck, agents, tied-agents, net-agents, answer, Answer, Same}
 use Rattle.answers.specs.Printer.{state-answer}
 use Rattle.answers.specs.Text.{texts, face-line, answer-text, answer-bytes}
 use Rattle.answers.specs.Printing.{answer-written}
 use Rattle.answers.specs.Collected.{Collected, Substituted}
+use Rattle.answers.specs.Knots.{Tied, Hangs, Behind, Held, never-met, Knotted}
+use Rattle.answers.specs.Proofs.Circles as Circles
 use Rattle.answers.specs.Proofs.Collecting.{collected}
 use Rattle.answers.specs.Proofs.Substituting.{substituted}
 use Rattle.answers.specs.Proofs.ReadBack.{answer-reads}
@@ -64,6 +70,38 @@ interface-collected {C = C} v n = collected C v (Nets.once n)
 pub pairs-substituted : {B : Book} {C : Conf} (v : Valid C) (n : Normal (Step B) C)
     → Substituted C (interface-collected v n)
 pairs-substituted {C = C} v n = substituted C v (Nets.once n)
+
+-- WHAT IS THE KNOT? When the end is read, each tie is held or is left,
+pub held-or-left : {B : Book} {C : Conf} → Normal (Step B) C → (x : ℕ) → Tied (C .eqs) x
+    → Held C x ⊎ Tied (never-met C) x
+held-or-left {C = C} n x t = Circles.held-or-left C (Nets.once n) x t
+
+-- and no tie left is held: those left are exactly those that are not held.
+pub left-not-held : {B : Book} {C : Conf} → Normal (Step B) C → (x : ℕ) → Tied (never-met C) x → Held C x → ⊥
+left-not-held {C = C} n x t h = Circles.left-free C (Nets.once n) x t h
+
+-- Where each name occurs twice, each tie left hangs on a tie left. (If x occurred once only, in x = Z, its tie would be
+-- left and hang on nothing. In a sound state each name occurs twice.)
+pub left-hangs : {B : Book} {C : Conf} → Closed C → Normal (Step B) C → (x : ℕ) → Tied (never-met C) x
+    → (y : ℕ) × (Hangs (C .eqs) x y × Tied (never-met C) y)
+left-hangs {C = C} c n x t = Circles.left-hangs C c (Nets.once n) x t
+
+-- As ties are finitely many, upwards from a tie left one comes to a circle: the knot is the agents of the ties on
+-- circles of ties and behind them, and all other ties are held.
+pub knot-of-circles : {B : Book} {C : Conf} → Closed C → Normal (Step B) C → Knotted C
+knot-of-circles {C = C} c n = Circles.knotted C c (Nets.once n)
+
+-- No tie is held and also on a circle or behind one.
+pub not-both : {B : Book} {C : Conf} → Valid C → Normal (Step B) C → (x : ℕ) → Tied (C .eqs) x → Held C x
+    → Behind (C .eqs) x → ⊥
+not-both {C = C} v n x t h b = Circles.held-not-behind C v (Nets.once n) h t b
+
+-- So in whatever way the ties on circles and behind them are parted from the others, the agents that they have are as
+-- many as the knot.
+pub knot-counted : {B : Book} {C : Conf} → Closed C → Normal (Step B) C → (k m : List Eqn) → C .eqs ∼ k ++ m
+    → ((x : ℕ) → Tied k x → Behind (C .eqs) x → ⊥) → ((x : ℕ) → Tied m x → Behind (C .eqs) x)
+    → (answer C) .knot ≡ tied-agents m
+knot-counted {C = C} c n k m p f h = Circles.knot-is C c (Nets.once n) k m p f h
 
 -- CAN ONE SHIP GET TWO TONNAGES? Two sequences of steps of the calculus from one valid net to ends: no.
 pub one-tonnage : {B : Book} → Calculus.Sound B → {C N D : Conf} {M M′ : List Label} → Valid C
@@ -105,6 +143,13 @@ module _ {T : Table} (t : SoundTable T) where
   state-read h e =
       let v = sound-valid t h in
       let n = ended-normal t h e in (interface-collected v n, pairs-substituted v n)
+
+  -- The knot told of its arrays is the agents of the ties on circles and behind them.
+  pub state-knotted : {s : St} (h : Sound T s) → s .waiting .used ≡ 0
+      → (k : Knotted (meaning h)) × ((state-answer T s) .knot ≡ tied-agents (k .never))
+  state-knotted {s} h e =
+      let k = knot-of-circles (good-closed (good-of h) names-max (s .loops) (h .sizes .names)) (ended-normal t h e) in
+      (k, ap (λ A. A .knot) (state-printed h e) ∙ k .knot)
 
   -- The byte printer prints that answer, and the cells that it leaves are the knot.
   pub bytes-printed : (ags : List Agent) {s : St} → Sound T s → s .waiting .used ≡ 0

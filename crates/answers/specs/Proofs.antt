@@ -28,3 +28,7 @@ pub mod Gather
 pub mod Collecting
 pub mod Spot
 pub mod Substituting
+pub mod Ties
+pub mod Climb
+pub mod TieSums
+pub mod Circles

@@ -116,12 +116,12 @@ pick-second x y l n =
     (λ o. picked (var x == var y) l o (pick y l))
     (if-no (some (var y)) (if-eq y y (some (var x)) none) n ∙ if-yes (some (var x)) none refl)
 
-beside-alike : (x : ℕ) {l m : List Eqn} {t u : Term} {r s : List Eqn} → l ∼ m → Once l → pick x l ≡ beside t r
+pub beside-alike : (x : ℕ) {l m : List Eqn} {t u : Term} {r s : List Eqn} → l ∼ m → Once l → pick x l ≡ beside t r
     → pick x m ≡ beside u s → (t ≡ u) × (r ∼ s)
 beside-alike x {l} {m} {t} {u} {r} {s} p o e f =
     subst (λ q. PickAlike (beside t r) q) f (subst (λ q. PickAlike q (pick x m)) e (pick-∼ x p (o x)))
 
-is-name : (y : ℕ) (t : Term) → 0 < side y t → t ≡ var y
+pub is-name : (y : ℕ) (t : Term) → 0 < side y t → t ≡ var y
 is-name y t h = go (is y t)
   where
     go : Is y t → t ≡ var y

@@ -60,7 +60,7 @@ parts : (n b : ℕ) → Parts n b
 parts n zero xs ys l a k = absurd (omega (arith, a))
 parts n (suc b) xs ys l a k = parts-more n b (parts n b) xs ys l (omega (arith, a)) k
 
-drain-append : (n : ℕ) (xs ys : List ℕ) (l : List Eqn) → length l ≤ n → drain n (xs ++ ys) l ≡ drain n ys (drain n xs l)
+pub drain-append : (n : ℕ) (xs ys : List ℕ) (l : List Eqn) → length l ≤ n → drain n (xs ++ ys) l ≡ drain n ys (drain n xs l)
 drain-append n xs ys l k = parts n (suc n) xs ys l (omega (arith, k)) k
 
 -- A name that has a number is in no equation left.
@@ -194,7 +194,7 @@ sides-reordered {l} {m} p =
     (step (eqs-reordered p) (perm-of-eq Path-equivalence (sym (sides-names m))))
 
 -- The equations never met, by the names that are followed.
-left-over : (C : Conf) → Once (C .eqs)
+pub left-over : (C : Conf) → Once (C .eqs)
     → (pairs-read C) .after .left ≡ drain (length (C .eqs)) (names (sides (stuck (C .eqs)))) (drain (length (C .eqs)) (names (C .face)) (C .eqs))
 left-over C o =
     let n = length (C .eqs) in

@@ -130,7 +130,7 @@ abbrev IsName : Term → Type 0
 IsName (var x) = Unit {0}
 IsName (node a ts) = ⊥
 
-var-node : {x b : ℕ} {us : Terms} → _≡_ {A = Term} (var x) (node b us) → ⊥
+pub var-node : {x b : ℕ} {us : Terms} → _≡_ {A = Term} (var x) (node b us) → ⊥
 var-node e = subst IsName e tt
 
 -- Two states are alike: the same numbers, and the same equations left up to order and sides, where a name touches one at most.
