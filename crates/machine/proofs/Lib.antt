@@ -1,1 +1,9 @@
-pub mod Wires
+pub mod Sounds
+pub mod Picks
+pub mod Steps
+pub mod Heads
+pub mod Runs
+pub mod Meetings
+pub mod Interactions
+pub mod Ruling
+pub mod Cells

@@ -1,2 +1,4 @@
-pub mod Wiring
-pub mod Wires
+pub mod Meets
+pub mod Picked
+pub mod Turns
+pub mod Calls

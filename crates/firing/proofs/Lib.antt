@@ -1,0 +1,9 @@
+pub mod Both
+pub mod Builds
+pub mod Entering
+pub mod Fires
+pub mod Held
+pub mod Lows
+pub mod Meaning
+pub mod Opening
+pub mod Takes

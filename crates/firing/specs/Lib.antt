@@ -1,0 +1,5 @@
+pub mod Built
+pub mod Fires
+pub mod Frames
+pub mod Pairs
+pub mod Taken

@@ -1,0 +1,4 @@
+pub mod Kinds
+pub mod Agents
+pub mod Judged
+pub mod Laws

@@ -1,0 +1,4 @@
+pub mod Lefts
+pub mod Wellformed
+pub mod Heads
+pub mod Laws

@@ -1,0 +1,4 @@
+pub mod Lines
+pub mod Goods
+pub mod Reading
+pub mod Whole

@@ -1,0 +1,3 @@
+pub mod Wiring
+pub mod Keeping
+pub mod Wires
