@@ -13,7 +13,7 @@ use Rattle.parts.specs.Limits.{text-max, arity-max, net-names-max}
 use Rattle.texts.specs.Bytes.{Word}
 use Rattle.model.specs.Table.{Cell}
 use Rattle.scan.specs.Words.{wordStart, wordEnd, wordsIn}
-use Rattle.scan.specs.Laws.Wording.{NextWord, next-word, no-word}
+use Rattle.rule_tests.specs.Laws.Nexts.{starts, next, next-is}
 use Rattle.table.specs.Lists.{tab}
 use Rattle.table.specs.Laws.Lists.{tab-snoc}
 use Rattle.terms.specs.Sheet.{Sheet, entered, counted-names, stored}
@@ -96,33 +96,11 @@ firsts-more i vs ws =
 
 -- A word that stands there is entered as it stands.
 module _ (text : List ℕ) (from : ℕ) (w : Word) (ws : List Word) (a : from ≤ length text) (t : length text < text-max) (q : wordsIn (drop from text) ≡ w ∷ ws) where
-  there : wordStart text from < length text
-  there = go (ltb (wordStart text from) (length text)) refl
-    where
-      go : (u : Bool) → ltb (wordStart text from) (length text) ≡ u → wordStart text from < length text
-      go true p = ltb-true (wordStart text from) (length text) p
-      go false p =
-          let z : wordsIn (drop from text) ≡ [] = no-word text from a (ltb-false (wordStart text from) (length text) p) in
-          absurd (omega (arith, ap length (sym q ∙ z)))
-
-  word : NextWord text from (wordStart text from) (wordEnd text (wordStart text from))
-  word = next-word text from there
-
-  parts : (take (wordEnd text (wordStart text from) - wordStart text from) (drop (wordStart text from) text) ≡ w)
-      × (wordsIn (drop (wordEnd text (wordStart text from)) text) ≡ ws)
-  parts = (first (sym (word .words) ∙ q), later (sym (word .words) ∙ q))
-    where
-      first : {x y : Word} {xs ys : List Word} → x ∷ xs ≡ y ∷ ys → x ≡ y
-      first {x} p = ap (λ (l : List Word). elim l [ [] ↦ x | z ∷ zs ↦ z ]) p
-
-      later : {x y : Word} {xs ys : List Word} → x ∷ xs ≡ y ∷ ys → xs ≡ ys
-      later {x} {y} {xs} p = ap (λ (l : List Word). elim l [ [] ↦ xs | z ∷ zs ↦ zs ]) p
-
   spelt : take ((wordEnd text (wordStart text from) - wordStart text from) % text-max) (drop (wordStart text from % text-max) text) ≡ w
   spelt =
-      let x : wordEnd text (wordStart text from) - wordStart text from < text-max = omega (arith, word .within, there, t) in
-      let y : wordStart text from < text-max = omega (arith, there, t) in
-      ap₂ (λ n m. take n (drop m text)) (mod-eq-of-lt x) (mod-eq-of-lt y) ∙ parts .0
+      let x : wordEnd text (wordStart text from) - wordStart text from < text-max = omega (arith, (next text from w ws a q) .within, starts text from w ws a q, t) in
+      let y : wordStart text from < text-max = omega (arith, starts text from w ws a q, t) in
+      ap₂ (λ n m. take n (drop m text)) (mod-eq-of-lt x) (mod-eq-of-lt y) ∙ next-is text from w ws a q .0
 
 module _ (text : List ℕ) (at n : ℕ) (s₀ : Sheet) (i from : ℕ) (s : Sheet) (g : Entering text at n s₀ i from s) (h : i < arity-max) (room : s₀ .names + arity-max ≤ net-names-max) where
   fits : s .names < net-names-max
@@ -140,8 +118,8 @@ module _ (text : List ℕ) (at n : ℕ) (s₀ : Sheet) (i from : ℕ) (s : Sheet
           subst (λ u. Holds text (nextSheet text from true s) cs u) (sym (firsts-more i vs ws))
               (entered-holds text s cs (ws ++ firsts i vs) (wordStart text from % text-max) ((wordEnd text (wordStart text from) - wordStart text from) % text-max) (getD vs i []) (p .0) fits
               (spelt text from (getD vs i []) (drop (i + 1) vs ++ more) (p .1) t k)),
-          (word text from (getD vs i []) (drop (i + 1) vs ++ more) (p .1) t k) .within,
-          parts text from (getD vs i []) (drop (i + 1) vs ++ more) (p .1) t k .1,
+          (next text from (getD vs i []) (drop (i + 1) vs ++ more) (p .1) k) .within,
+          next-is text from (getD vs i []) (drop (i + 1) vs ++ more) (p .1) k .1,
         );
   }
 

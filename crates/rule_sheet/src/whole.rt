@@ -30,6 +30,7 @@ pub struct Head {
     pub arity: usize,
 }
 
+// The symbols of the two left agents.
 pub struct Heads {
     pub left: SymbolNo,
     pub right: SymbolNo,
@@ -88,6 +89,7 @@ fn enter_lefts(rest: &[u8], agents: &[u8], sheet: &mut [u16; Sheet::SIZE]) -> He
     }
 }
 
+// The rule: its left arguments are numbered first, then its right side is read and the new names get the numbers behind them.
 pub fn coded(rest: &[u8], agents: &[u8]) -> Rule
     requires { ⌜ ((r : Books.Rule) × Wellformed (now rest) (agentsOf (now agents)) r) ⌝ }
     ensures { λ c. ⌜ ((r : Books.Rule) → Wellformed (now (rest .entry)) (agentsOf (now (agents .entry))) r → stands (agentsOf (now (agents .entry))) c ≡ template (agentsOf (now (agents .entry))) r) ⌝ }

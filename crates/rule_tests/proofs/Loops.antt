@@ -1,6 +1,6 @@
 -- What the loops over the words of a part keep, and their steps.
 use Prim.Native.Nat.{ℕ, _+_, _-_, _≤_, _<_}
-use mathlib.Core.Path.{_≡_, refl, sym, ap, _∙_}
+use mathlib.Core.Path.{_≡_, refl, sym, ap, ap₂, subst, _∙_}
 use mathlib.Core.Bool.{Bool, true, false, cond, not, _||_, _&&_}
 use mathlib.Core.List.{List, [], _∷_}
 use native.Mathlib.Omega.{arith}
@@ -12,6 +12,7 @@ use Rattle.texts.specs.Bytes.{Word, any, keep, among, different}
 use Rattle.scan.specs.Words.{wordStart, wordEnd, wordsIn}
 use Rattle.scan.specs.Laws.Wording.{NextWord, next-word, no-word}
 use Rattle.rule_tests.specs.Words.{lastOnes}
+use Rattle.rule_tests.specs.Laws.Nexts.{next, next-is}
 use Rattle.rule_tests.specs.Laws.Lasts.{lasts-different}
 
 no-words : wordsIn [] ≡ []
@@ -45,33 +46,15 @@ module _ (l : List ℕ) (at s : ℕ) (es : s ≡ wordStart l at) (e : ℕ) (ee :
   pub after-start : s ≤ e
   after-start = omega (arith, ee)
 
-  module _ (w : Word) (ws : List Word) (h : at ≤ length l) (q : wordsIn (drop at l) ≡ w ∷ ws) where
-    there : s < length l
-    there = go (ltb s (length l)) refl
-      where
-        go : (t : Bool) → ltb s (length l) ≡ t → s < length l
-        go true p = ltb-true s (length l) p
-        go false p =
-            let z : wordsIn (drop at l) ≡ [] = no-word l at h (rw es at (ltb-false s (length l) p)) in
-            absurd (omega (arith, ap length (sym q ∙ z)))
-
-    next : NextWord l at s e
-    next = the-next l at s e es there ee
-
-    both-are : (take (e - s) (drop s l) ≡ w) × (wordsIn (drop e l) ≡ ws)
-    both-are = let p : take (e - s) (drop s l) ∷ wordsIn (drop e l) ≡ w ∷ ws = sym (next .words) ∙ q in (first p, later p)
-      where
-        first : {x y : Word} {xs ys : List Word} → x ∷ xs ≡ y ∷ ys → x ≡ y
-        first {x} p = ap (λ (l : List Word). elim l [ [] ↦ x | z ∷ zs ↦ z ]) p
-
-        later : {x y : Word} {xs ys : List Word} → x ∷ xs ≡ y ∷ ys → xs ≡ ys
-        later {x} {y} {xs} p = ap (λ (l : List Word). elim l [ [] ↦ xs | z ∷ zs ↦ zs ]) p
+  end-is : e ≡ wordEnd l (wordStart l at)
+  end-is = ee ∙ ap (wordEnd l) es
 
   pub word-is : (v : Word) → v ≡ take (e - s) (drop s l) → (w : Word) (ws : List Word) → at ≤ length l → wordsIn (drop at l) ≡ w ∷ ws → v ≡ w
-  word-is v ev w ws h q = ev ∙ both-are w ws h q .0
+  word-is v ev w ws h q = ev ∙ (ap₂ (λ x y. take (y - x) (drop x l)) es end-is ∙ next-is l at w ws h q .0)
 
   pub after-is : (w : Word) (ws : List Word) → at ≤ length l → wordsIn (drop at l) ≡ w ∷ ws → (e ≤ length l) × (wordsIn (drop e l) ≡ ws)
-  after-is w ws h q = ((next w ws h q) .within, both-are w ws h q .1)
+  after-is w ws h q =
+      (subst (λ n. n ≤ length l) (sym end-is) ((next l at w ws h q) .within), ap (λ n. wordsIn (drop n l)) end-is ∙ next-is l at w ws h q .1)
 
 -- no word before the place passes the test
 pub record Missed (f : Word → Bool) (l : List ℕ) (at : ℕ) : Type 0 where

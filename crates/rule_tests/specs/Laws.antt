@@ -6,3 +6,4 @@ pub mod Times
 pub mod Apart
 pub mod Eight
 pub mod Five
+pub mod Nexts
