@@ -1,0 +1,2 @@
+pub mod OnSheet
+pub mod Writing

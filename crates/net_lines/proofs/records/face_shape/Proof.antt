@@ -1,0 +1,42 @@
+-- `net_lines::records::face_shape` meets its contract.
+use Rattle.net_lines.specs.Proofs.Shapes.{shape-2, face-3, face-4}
+use borrow.Author.Needs.{needs}
+use Rattle.net_lines.proofs.records.face_shape.Statement.{statement}
+use Rattle.net_lines.proofs.records.face_shape.Tie as tie
+
+first-bad-requires : tie.Need-first-bad-requires
+first-bad-requires c κs = search needs
+
+returns : tie.Need-returns
+returns c = search (needs, shape-2)
+
+field-requires : tie.Need-field-requires
+field-requires c κs = search needs
+
+slice-aggregate-same : tie.Need-slice-aggregate-same
+slice-aggregate-same c = search needs
+
+same-requires : tie.Need-same-requires
+same-requires c κs = search needs
+
+number-4-requires : tie.Need-number-4-requires
+number-4-requires c κs = search needs
+
+returns-2 : tie.Need-returns-2
+returns-2 c = search (needs, face-4)
+
+returns-3 : tie.Need-returns-3
+returns-3 c = search (needs, face-3)
+
+pub face-shape-spec : {M : Type 1} → statement M
+face-shape-spec =
+    tie.close
+    (tie.spec
+    first-bad-requires
+    returns
+    field-requires
+    slice-aggregate-same
+    same-requires
+    number-4-requires
+    returns-2
+    returns-3)

@@ -1,0 +1,5 @@
+pub mod Draft
+pub mod Taking
+pub mod Judging
+pub mod Records
+pub mod Proofs

@@ -1,0 +1,6 @@
+pub mod Drafted
+pub mod Heading
+pub mod Reading
+pub mod Answer
+pub mod Proofs
+pub mod Main

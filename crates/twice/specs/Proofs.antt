@@ -1,0 +1,3 @@
+-- Why the marks tell the line: pages that no reader of the definitions needs.
+pub mod Stands
+pub mod Lines
