@@ -24,8 +24,8 @@ use Rattle.lent.specs.Both.{BothSound, sound-table, sound-state}
 use Rattle.answers.specs.Printing.{Pen, pen, Fits, Written, written, both, sides-bytes, line-bytes, pairs-bytes, first-pen, face-written, answer-written}
 use Rattle.answers.specs.PrintingLaws.{line-is, pairs-none, pairs-more, first-fits, sides-kept}
 use Rattle.answers.specs.Proofs.Live.{all-taken}
-use Rattle.printing.specs.Puts.{Puts, far}
-use Rattle.printing.specs.Prints.{held, Prints, Stands, name-long, dear, Ready, Row, span, sides-of}
+use Rattle.printing.specs.Puts.{Puts, far, name-long}
+use Rattle.printing.specs.Prints.{held, Prints, Stands, dear, Ready, Row, span, sides-of}
 use Rattle.printing.specs.declared.terms.Cursor.{Cursor}
 use Rattle.printing.proofs.Stores.{puts-then}
 use Rattle.printing.proofs.Pays.{spelling-short, sides-pay}

@@ -13,7 +13,8 @@ use Rattle.table.specs.Layout.{agentsIn}
 use Rattle.state.specs.Layout.{view}
 use Rattle.sound.specs.Lent.{under}
 use Rattle.answers.specs.Printing.{Written, written, sides-bytes, line-bytes, pairs-bytes, answer-written}
-use Rattle.printing.specs.Prints.{held, name-long}
+use Rattle.printing.specs.Puts.{name-long}
+use Rattle.printing.specs.Prints.{held}
 use Rattle.printing.specs.declared.terms.Cursor.{Cursor}
 
 -- How long a line can be beside its cells: n sides and newline, with the word of the `face` line and of an `eq` line.

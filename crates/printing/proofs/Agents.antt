@@ -19,8 +19,8 @@ use Rattle.lent.specs.Both.{usable, sound-table, sound-state}
 use Rattle.answers.specs.Text.{spelling}
 use Rattle.answers.specs.Printing.{pen, Written, around, close, sides-bytes}
 use Rattle.answers.specs.PrintingLaws.{cell-none, cell-some}
-use Rattle.printing.specs.Puts.{Puts, far, letters}
-use Rattle.printing.specs.Prints.{held, Prints, Stands, Begins, Begun, closing, name-long, Ready, span, Row, cell-of, sides-of}
+use Rattle.printing.specs.Puts.{Puts, far, letters, name-long}
+use Rattle.printing.specs.Prints.{held, Prints, Stands, Begins, Begun, closing, Ready, span, Row, cell-of, sides-of}
 use Rattle.printing.specs.declared.terms.Cursor.{Cursor}
 use Rattle.printing.proofs.Stores.{puts-then}
 use Rattle.printing.proofs.Pays.{spelling-short, spelling-letters, sides-pay}

@@ -18,8 +18,8 @@ use Rattle.table.specs.Lists.{tab}
 use Rattle.table.specs.Laws.Lists.{tab-at, length-tab}
 use Rattle.answers.specs.Text.{spelling, numeral, no-agent}
 use Rattle.answers.specs.Printing.{Pen, pen, Written, numbered, numbered-both, close, name-by, side-by, sides-by, cell-met, cell-by, side-bytes, sides-bytes, cell-bytes}
-use Rattle.printing.specs.Puts.{letters}
-use Rattle.printing.specs.Prints.{name-long, dear}
+use Rattle.printing.specs.Puts.{letters, name-long}
+use Rattle.printing.specs.Prints.{dear}
 
 -- A number has four digits at most.
 decimal-short : (n : ℕ) → length (decimal n) ≤ 4

@@ -25,10 +25,7 @@ put-in o at b r e = record { place = e; bytes = refl }
 pub put-past : (o : List ℕ) (at b r : ℕ) → length o ≤ at → r ≡ at + 1 → Puts (b ∷ []) at o r o
 put-past o at b r h e = record { place = e; bytes = sym (set-out o at b h) }
 
--- Nothing, and one run of bytes after another.
-pub puts-none : (o : List ℕ) (at : ℕ) → Puts [] at o at o
-puts-none o at = record { place = omega arith; bytes = refl }
-
+-- One run of bytes after another.
 pub puts-then : {a b o o₁ o₂ : List ℕ} {at p r : ℕ} → Puts a at o p o₁ → Puts b p o₁ r o₂ → Puts (a ++ b) at o r o₂
 puts-then {a} {b} {o} {o₁} {o₂} {at} {p} {r} s t =
     record {

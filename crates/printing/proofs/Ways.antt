@@ -26,8 +26,8 @@ use Rattle.lent.specs.Both.{BothSound, sound-table, sound-state}
 use Rattle.answers.specs.Text.{numeral}
 use Rattle.answers.specs.Printing.{Pen, Fits, Written, written, side-bytes, sides-bytes}
 use Rattle.answers.specs.PrintingLaws.{side-falls, sides-none, sides-more, next-below, side-kept}
-use Rattle.printing.specs.Puts.{Puts}
-use Rattle.printing.specs.Prints.{held, Prints, Stands, name-long, Ready, Leaf, span, Row, one-name, two-names, met-bytes, LiveMet, Looks, side-of, cell-of, sides-of}
+use Rattle.printing.specs.Puts.{Puts, name-long}
+use Rattle.printing.specs.Prints.{held, Prints, Stands, Ready, Leaf, span, Row, one-name, two-names, met-bytes, LiveMet, Looks, side-of, cell-of, sides-of}
 use Rattle.printing.specs.declared.terms.Cursor.{Cursor}
 use Rattle.printing.specs.declared.terms.Met.{Met}
 use Rattle.printing.specs.declared.terms.Met.the-variants.{Numbered, Bare, Joined, Cell}

@@ -19,7 +19,7 @@ use Rattle.sound.specs.Lent.{under}
 use Rattle.lent.specs.Both.{BothSound}
 use Rattle.answers.specs.Text.{numeral}
 use Rattle.answers.specs.Printing.{Pen, pen, Fits, Written, written, numbered, numbered-both, side-bytes, sides-bytes, cell-bytes}
-use Rattle.printing.specs.Puts.{Puts, far, letters}
+use Rattle.printing.specs.Puts.{Puts, far, name-long, letters}
 use Rattle.printing.specs.declared.terms.Cursor.{Cursor}
 use Rattle.printing.specs.declared.terms.Met.{Met}
 use Rattle.printing.specs.declared.terms.Met.the-variants.{Numbered, Bare, Joined, Cell}
@@ -55,11 +55,8 @@ abbrev pub closing : ℕ → List ℕ
 closing zero = []
 closing (suc n) = 41 ∷ []
 
--- The longest number of a name, `_` and its digits; and what a cell adds at most: its letters, a closing bracket, and
--- the names among its arguments, each with the byte before it.
-abbrev pub name-long : ℕ
-name-long = 5
-
+-- What a cell adds at most: its letters, a closing bracket, and the names among its arguments, each with the byte
+-- before it.
 abbrev pub dear : ℕ
 dear = identifier-max + 1 + arity-max * (1 + name-long)
 

@@ -12,6 +12,10 @@ use Rattle.table.specs.Layout.{agentRow, word}
 abbrev pub far : ℕ
 far = 2 * text-max
 
+-- The longest number of a name: `_` and its digits.
+abbrev pub name-long : ℕ
+name-long = 5
+
 -- The bytes bs stand from place `at` on, as far as the output has places, and r is the place after them.
 pub record Puts (bs : List ℕ) (at : ℕ) (o : List ℕ) (r : ℕ) (o′ : List ℕ) : Type 0 where
   pub place : r ≡ at + length bs

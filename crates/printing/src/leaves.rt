@@ -5,7 +5,7 @@ ghost use mathlib.Core.List.{[], _∷_};
 ghost use Prim.Native.Nat.{_+_, _<_, _≤_};
 ghost use Rattle.parts.specs.Limits.{identifier-max, symbols-max};
 ghost use Rattle.answers.specs.Text.{numeral};
-ghost use Rattle.printing.specs.Puts.{Puts, far, letters};
+ghost use Rattle.printing.specs.Puts.{Puts, far, name-long, letters};
 
 // One byte, where the output has that place. The next place is handed back.
 pub fn put(out: &mut [u8], at: usize, b: u8) -> usize
@@ -48,7 +48,7 @@ fn put_two(out: &mut [u8], at: usize, x: u16, y: u16) -> usize
 
 // "Names left are printed `_0`, `_1`".
 pub fn put_numeral(out: &mut [u8], at: usize, k: u16) -> usize
-    requires { ⌜ at + 5 ≤ far ⌝ }
+    requires { ⌜ at + name-long ≤ far ⌝ }
     ensures { λ r. ⌜ Puts (numeral k) at (now (out .entry)) r (now (out .exit)) ⌝ }
 {
     let a = put(out, at, b'_');

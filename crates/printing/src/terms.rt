@@ -19,8 +19,8 @@ ghost use Rattle.state.specs.Layout.{view};
 ghost use Rattle.state.specs.Places.{words};
 ghost use mathlib.Core.List.{[], _∷_};
 ghost use Rattle.answers.specs.Text.{numeral};
-ghost use Rattle.printing.specs.Puts.{far};
-ghost use Rattle.printing.specs.Prints.{Stands, Begins, Begun, closing, Prints, Looks, Ready, Row, Leaf, name-long, span, one-name, two-names, side-of, cell-of, sides-of};
+ghost use Rattle.printing.specs.Puts.{far, name-long};
+ghost use Rattle.printing.specs.Prints.{Stands, Begins, Begun, closing, Prints, Looks, Ready, Row, Leaf, span, one-name, two-names, side-of, cell-of, sides-of};
 
 // Where the next byte goes, the next number of a name, and the cells not yet met.
 pub struct Cursor {
