@@ -2,15 +2,11 @@
 use mathlib.Core.Path.{_≡_, refl, sym, ap, _∙_}
 use mathlib.Core.Bool.{Bool, true, false}
 use mathlib.Core.List.{List, [], _∷_}
-use mathlib.Core.Logic.{_↔_}
 use Prim.Native.Nat.{ℕ}
 use native.Mathlib.Decide.{ℕ-discrete}
-use lib.ListN.{getD, drop}
-use Rattle.model.specs.Sound.{Sound, SoundTable}
 use Rattle.model.specs.Test.{tested}
 use Rattle.model.specs.Tested.{tested-sound}
 use Rattle.texts.specs.Main.{table-book, table-test}
-use Rattle.texts.specs.Coded.{tableOf}
 use Rattle.texts.specs.TableTest.{testTable}
 use Rattle.table.specs.Layout.{bytesOf, tableBytes}
 use Rattle.table.specs.Layout as Layout

@@ -1,32 +1,32 @@
 -- One law for each way out of the meeting of two cells.
-use mathlib.Core.Path.{_≡_, refl, ap, ap₂, subst, sym, _∙_}
-use mathlib.Core.Bool.{Bool, true, false}
+use mathlib.Core.Path.{_≡_, refl, ap, subst, sym, _∙_}
+use mathlib.Core.Bool.{Bool, true}
 use mathlib.Core.List.{List, [], _∷_, _++_}
-use Prim.Native.Nat.{ℕ, zero, suc, _+_, _-_, _*_, _<_, _≤_, pred}
+use Prim.Native.Nat.{ℕ, zero, suc, _+_, _-_, _<_, _≤_, pred}
 use native.Mathlib.Omega.{arith}
 use lib.ListN.{length, getD}
 use Rattle.calculus.specs.Proofs.Count.{δ-same, sum-append}
 use Rattle.calculus.specs.Terms.{δ, count, Terms, Eqn}
-use Rattle.parts.specs.Limits.{symbols-max, cells-max, stuck-max}
+use Rattle.parts.specs.Limits.{symbols-max}
 use Rattle.parts.specs.Sides.{cell, Pair, _:=_}
 use Rattle.parts.specs.Sides as Plain
 use Rattle.model.specs.Kept.{step-sound}
 use Rattle.model.specs.Proofs.Bonds.{_≃_}
-use Rattle.model.specs.Proofs.Parts.{Part, part}
+use Rattle.model.specs.Proofs.Parts.{part}
 use Rattle.model.specs.Proofs.Ranges.{LiveSide, waiting-live}
 use Rattle.model.specs.Proofs.Selves.{picked-out}
 use Rattle.model.specs.Proofs.Stepped.{Finds, FoundAt, finds}
 use Rattle.model.specs.Reading.{Reads, by-cell, ReadsAll, no-pairs, pairs, pool-of}
 use Rattle.model.specs.Rows.{Row, no-rule}
 use Rattle.model.specs.Run.{one-made}
-use Rattle.model.specs.Sound.{SoundTable, Sound, pool}
+use Rattle.model.specs.Sound.{Sound, pool}
 use Rattle.model.specs.State.{St, equation, unpack, pulled, listed}
-use Rattle.model.specs.Step.{Answer, moved, refused, fire-if, held, meet, picked, place, rule-of, stepped, symbol-of, taken-out}
+use Rattle.model.specs.Step.{Answer, moved, fire-if, held, meet, picked, place, rule-of, stepped, symbol-of, taken-out}
 use Rattle.model.specs.StepTable.{step-table}
-use Rattle.model.specs.Table.{Cell, Entry, Table, Found, none, straight, turned, find, entry, no-entry}
-use Rattle.state.specs.Moves.{out-of-waiting, put-on, Pullable}
-use Rattle.sound.specs.Lent.{under, Usable}
-use Rattle.table.specs.Layout.{entryAt, rulesIn}
+use Rattle.model.specs.Table.{Cell, Entry, Table, Found, none, straight, turned, no-entry}
+use Rattle.state.specs.Moves.{out-of-waiting, put-on}
+use Rattle.sound.specs.Lent.{under}
+use Rattle.table.specs.Layout.{entryAt}
 use Rattle.table.specs.Layout as Layout
 use Rattle.table.specs.Rule.{matched}
 use Rattle.table.specs.declared.Match.{Match}
@@ -40,7 +40,7 @@ use Rattle.firing.specs.Built.{Ruled}
 use Rattle.firing.specs.Fires.{Pairing}
 use Rattle.machine.proofs.Ruling.{rule-is, ruled}
 use Rattle.machine.proofs.Sounds.{pullable}
-use Rattle.machine.specs.Meets.{InUse, Symbolled, Stickable, stuck-on, Interactable, Interacting, Meetable, Meeting}
+use Rattle.machine.specs.Meets.{Symbolled, Stickable, stuck-on, Interactable, Interacting, Meetable, Meeting}
 use Rattle.machine.specs.declared.outcome.Outcome.{Outcome}
 use Rattle.machine.specs.declared.outcome.Outcome.the-variants.{Linked, Interacted, Spent, NoRoom}
 

@@ -1,15 +1,15 @@
 -- One law for each way out of a turn, and for each way through a run.
 use mathlib.Core.Path.{_≡_, refl, ap, ap₂, subst, sym, _∙_}
-use mathlib.Core.Bool.{Bool, true, false}
+use mathlib.Core.Bool.{true}
 use mathlib.Core.List.{List}
 use mathlib.Core.Logic.{_⊎_, inl, inr}
-use Prim.Native.Nat.{ℕ, zero, suc, _+_, _-_, _*_, _<_, _≤_}
+use Prim.Native.Nat.{ℕ, zero, suc, _-_, _<_, _≤_}
 use native.Mathlib.Omega.{arith}
 use lib.Dec.{ltb}
 use borrow.Author.Tests.{ltb-true, ltb-false}
 use Rattle.lent.specs.Both.{given-sound}
 use Rattle.model.specs.Kept.{step-sound}
-use Rattle.model.specs.Run.{Ran, one-made, ended, paused, noroom, stopped, run, ran}
+use Rattle.model.specs.Run.{Ran, one-made, ended, paused, noroom, stopped, run}
 use Rattle.model.specs.Sound.{SoundTable, Sound}
 use Rattle.model.specs.State.{St}
 use Rattle.model.specs.Step.{Answer, moved, refused, rule-at, stepped}
@@ -21,8 +21,6 @@ use Rattle.machine.specs.Picked.{Steppable, Went}
 use Rattle.machine.specs.Turns.{Turnable, WentOn, TurnAs}
 use Rattle.machine.specs.declared.outcome.Outcome.{Outcome}
 use Rattle.machine.specs.declared.outcome.Outcome.the-variants.{Linked, Interacted, Spent, NoRoom}
-use Rattle.machine.specs.declared.turns.Running.{Running}
-use Rattle.machine.specs.declared.turns.Turn.{Turn}
 use Rattle.machine.specs.declared.turns.Turn.the-variants as To
 
 -- The model's run, by what is at the head.

@@ -1,29 +1,27 @@
 -- One law for each way out of an interaction.
-use mathlib.Core.Path.{_≡_, refl, ap, ap₂, subst, sym, _∙_}
-use mathlib.Core.Bool.{Bool, true, false, _&&_}
+use mathlib.Core.Path.{_≡_, refl, ap, sym, _∙_}
+use mathlib.Core.Bool.{Bool, true, false}
 use mathlib.Core.List.{List, [], _∷_}
-use Prim.Native.Nat.{ℕ, zero, suc, _+_, _-_, _*_, _<_, _≤_, min, pred}
+use Prim.Native.Nat.{ℕ, zero, suc, _+_, _-_, _<_, _≤_, pred}
 use native.Mathlib.Omega.{arith}
-use lib.Dec.{leb}
 use lib.ListN.{length, getD}
 use borrow.Author.Tests.{leb-true, le-leb}
-use Rattle.parts.specs.Limits.{arity-max, cells-max, names-max, waiting-max}
+use Rattle.parts.specs.Limits.{cells-max, names-max, waiting-max}
 use Rattle.model.specs.State.{St, used}
 use Rattle.model.specs.Table.{Entry}
 use Rattle.model.specs.Step.{Answer, moved, refused, fired, fire-if, Room}
 use Rattle.model.specs.Step as Step
-use Rattle.state.specs.Moves.{out-of-waiting, Pullable}
+use Rattle.state.specs.Moves.{out-of-waiting}
 use Rattle.table.specs.Layout.{entryAt, entryOf}
 use Rattle.table.specs.Laws.Lists.{length-tab}
 use Rattle.texts.specs.Proofs.Tools.{both, pair}
 use Rattle.kept.specs.Right.{Right}
 use Rattle.kept.specs.declared.Kept.{Kept}
-use Rattle.firing.specs.Built.{Ruled, equations-of, cells-of, names-of}
-use Rattle.firing.specs.Fires.{Pairing, Firing}
+use Rattle.firing.specs.Built.{equations-of, cells-of, names-of}
+use Rattle.firing.specs.Fires.{Firing}
 use Rattle.machine.proofs.Sounds.{right-out}
 use Rattle.machine.specs.Meets.{Countable, room-test, Interactable, Interacting}
-use Rattle.machine.specs.declared.outcome.Outcome.{Outcome}
-use Rattle.machine.specs.declared.outcome.Outcome.the-variants.{Linked, Interacted, Spent, NoRoom}
+use Rattle.machine.specs.declared.outcome.Outcome.the-variants.{Interacted, Spent, NoRoom}
 
 few-used : (l : List ℕ) → used l ≤ length l
 few-used [] = omega arith

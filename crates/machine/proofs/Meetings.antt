@@ -1,16 +1,13 @@
 -- One law for each way out of the functions by which two cells meet.
-use mathlib.Core.Path.{_≡_, refl, ap, ap₂, subst, sym, _∙_}
-use mathlib.Core.Bool.{Bool, true, false, _&&_}
+use mathlib.Core.Path.{_≡_, refl, ap, ap₂, _∙_}
+use mathlib.Core.Bool.{Bool, false}
 use mathlib.Core.List.{List}
 use Prim.Native.Nat.{ℕ, zero, suc, _+_, _-_, _*_, _<_, _≤_, pred}
 use native.Mathlib.Omega.{arith}
 use lib.Dec.{leb}
-use lib.ListN.{length, getD}
-use borrow.Author.Tests.{leb-true, leb-false, le-leb, lt-leb}
-use mir.Syntax.{w16}
-use mir.Val.{Fits}
+use lib.ListN.{getD}
+use borrow.Author.Tests.{le-leb, lt-leb}
 use Rattle.parts.specs.Limits.{symbols-max, cells-max, names-max, stuck-max, waiting-max}
-use Rattle.parts.specs.Sides.{cell, _:=_}
 use Rattle.parts.specs.Typed.{pair, number}
 use Rattle.parts.specs.declared.CellNo.{CellNo}
 use Rattle.parts.specs.declared.Equation.{Equation}
@@ -18,9 +15,9 @@ use Rattle.parts.specs.declared.Side.the-variants.{Cell}
 use Rattle.model.specs.State.{St, used}
 use Rattle.model.specs.Table.{Table, find}
 use Rattle.model.specs.Step.{symbol-of, rule-of}
-use Rattle.state.specs.Moves.{out-of-waiting, put-on, Pullable, RoomOn}
+use Rattle.state.specs.Moves.{out-of-waiting, put-on, RoomOn}
 use Rattle.state.specs.declared.Pile.the-variants.{Stucks}
-use Rattle.sound.specs.Lent.{under, Usable}
+use Rattle.sound.specs.Lent.{under}
 use Rattle.table.specs.Layout.{bytesOf}
 use Rattle.table.specs.Layout as Layout
 use Rattle.table.specs.Rule.{matched}
@@ -28,7 +25,7 @@ use Rattle.table.specs.declared.Match.{Match}
 use Rattle.texts.specs.Coded as Coded
 use Rattle.kept.specs.declared.Kept.{Kept}
 use Rattle.firing.specs.Built.{equations-of, cells-of, names-of}
-use Rattle.machine.specs.Meets.{InUse, Symbolled, Countable, room-test, Stickable, stuck-on}
+use Rattle.machine.specs.Meets.{Symbolled, room-test, Stickable, stuck-on}
 
 -- `symbol_at`
 pub symbol-is : (s : St) (c v : ℕ) → v ≡ getD (s .symbols) c 0 → v - 1 ≡ symbol-of c s

@@ -1,14 +1,13 @@
 -- One law for each way out of a step on a picked equation.
-use mathlib.Core.Path.{_≡_, refl, ap, ap₂, subst, sym, _∙_}
+use mathlib.Core.Path.{_≡_, refl, ap, ap₂, sym, _∙_}
 use mathlib.Core.Bool.{Bool, true, false}
 use mathlib.Core.List.{List}
-use mathlib.Core.Logic.{_⊎_, inl, inr}
-use Prim.Native.Nat.{ℕ, zero, suc, _+_, _-_, _*_, _<_, _≤_, pred}
+use mathlib.Core.Logic.{inl, inr}
+use Prim.Native.Nat.{ℕ, _+_, _-_, _*_, _<_, _≤_}
 use native.Mathlib.Omega.{arith}
-use lib.Dec.{eqb}
 use borrow.Author.Tests.{eq-eqb, ne-eqb}
-use Rattle.parts.specs.Limits.{cells-max, names-max, waiting-max, loops-max}
-use Rattle.parts.specs.Sides.{name, cell, Pair, _:=_}
+use Rattle.parts.specs.Limits.{names-max, waiting-max, loops-max}
+use Rattle.parts.specs.Sides.{cell, _:=_}
 use Rattle.parts.specs.Typed.{plain, pair, number}
 use Rattle.parts.specs.declared.Equation.{Equation}
 use Rattle.parts.specs.declared.NameNo.{NameNo}
@@ -19,15 +18,14 @@ use Rattle.lent.specs.Both.{given-sound}
 use Rattle.model.specs.Proofs.Tabled.{acts}
 use Rattle.model.specs.Run.{one-made}
 use Rattle.model.specs.State.{St, equation}
-use Rattle.model.specs.Step.{Answer, moved, refused, act, meet, picked, place, rule-at, rule-for, rule-of, stepped, taken-out, wire}
-use Rattle.model.specs.Table.{Table, Found}
-use Rattle.state.specs.Moves.{out-of-waiting, Pullable}
+use Rattle.model.specs.Step.{moved, act, meet, picked, place, rule-at, rule-for, rule-of, stepped, taken-out, wire}
+use Rattle.state.specs.Moves.{out-of-waiting}
 use Rattle.sound.specs.Lent.{under}
 use Rattle.kept.specs.Right.{Right}
 use Rattle.kept.specs.declared.Kept.{Kept}
 use Rattle.wiring.specs.Keeping.{Came}
 use Rattle.wiring.specs.Wires.{wires}
-use Rattle.wiring.specs.Wiring.{pick, loop-here, Ready, wired}
+use Rattle.wiring.specs.Wiring.{loop-here, Ready, wired}
 use Rattle.machine.proofs.Sounds.{live-small, right-out, sides-live, Shown, as-is, turned-round, steps-by, pickable}
 use Rattle.machine.specs.Picked.{full-loop, Pickable, Linking, Steppable, Went}
 use Rattle.machine.specs.Meets.{Meetable, Meeting}

@@ -1,6 +1,6 @@
 -- A rule of a table that passes its test can be read in place.
 use Prim.Native.Nat.{ℕ, zero, suc, _+_, _*_, _<_, _≤_}
-use mathlib.Core.Path.{_≡_, refl, ap, sym, _∙_, subst}
+use mathlib.Core.Path.{_≡_, refl, ap, subst}
 use mathlib.Core.Bool.{Bool, true, false, cond, not, _&&_}
 use mathlib.Core.List.{List, [], _∷_, _++_}
 use native.Mathlib.Omega.{arith}
@@ -16,11 +16,11 @@ use Rattle.texts.specs.Coded.{Table, second-from, new-from}
 use Rattle.texts.specs.TableTest.{testAgents, testTable, testTemplates, testTemplate, pairTest, arityAt, cellOk, codeOk, unpaired, argsAll, allCodes}
 use Rattle.texts.specs.Proofs.Clauses.{Clauses, clauses-of}
 use Rattle.texts.specs.Proofs.Tools.{both, all-left, all-right}
-use Rattle.table.specs.Layout.{bytesOf, view, ruleRow, rulesIn, agentsIn, symbolOf, cellOf, equationOf, entryOf, entryAt}
+use Rattle.table.specs.Layout.{view, ruleRow, rulesIn, agentsIn, symbolOf, cellOf, equationOf, entryOf, entryAt}
 use Rattle.table.specs.Lists.{tab}
 use Rattle.table.specs.Laws.Lists.{length-tab, tab-at}
 use Rattle.table.specs.Laws.Rows.{all-at, arity-small}
-use Rattle.table.specs.Laws.Whole.{FitTable, tested-fits}
+use Rattle.table.specs.Laws.Whole.{tested-fits}
 use Rattle.firing.specs.Frames.{names-at}
 use Rattle.firing.specs.Built.{Ruled, Inside, equations-of, cells-of, names-of, width-of, side-of, argument-of}
 

@@ -2,20 +2,19 @@
 use mathlib.Core.Path.{_≡_, refl, ap, ap₂, subst, sym, _∙_}
 use mathlib.Core.Bool.{Bool, true, false}
 use mathlib.Core.List.{List}
-use mathlib.Core.Logic.{_⊎_, inl, inr, _↔_}
-use Prim.Native.Nat.{ℕ, zero, suc, _+_, _-_, _*_, _<_, _≤_}
+use mathlib.Core.Logic.{_↔_}
+use Prim.Native.Nat.{ℕ, suc, _-_, _<_, _≤_}
 use native.Mathlib.Decide.{decLt}
 use native.Mathlib.Omega.{arith}
-use Rattle.parts.specs.Limits.{waiting-max, names-max, budget-max}
-use Rattle.model.specs.Run.{Ran, ended, paused, noroom, stopped, run, ran}
+use Rattle.parts.specs.Limits.{budget-max}
+use Rattle.model.specs.Run.{ended, paused, noroom, stopped, run, ran}
 use Rattle.model.specs.State.{St}
-use Rattle.model.specs.Table.{Table}
 use Rattle.state.specs.Layout.{view}
 use Rattle.sound.specs.Lent.{under}
 use Rattle.kept.specs.Right.{Right}
 use Rattle.kept.specs.declared.Kept.{Kept}
 use Rattle.lent.specs.Both.{BothSound, table-given, sound-state}
-use Rattle.lent.specs.Decided.{if-sound, where-sound, where-not}
+use Rattle.lent.specs.Decided.{where-sound, where-not}
 use Rattle.machine.specs.Calls.{Out, out, number, stood, ran-out, run-told, run-called}
 use Rattle.machine.specs.Turns.{enough, Turnable, WentOn, TurnAs}
 use Rattle.machine.specs.declared.turns.Running.{Running}

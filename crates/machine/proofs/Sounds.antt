@@ -1,12 +1,12 @@
 -- What a sound state gives to a step on one of its equations.
 use mathlib.Core.Path.{_≡_, refl, ap, subst, sym, _∙_}
 use mathlib.Core.Bool.{Bool, true, false}
-use mathlib.Core.Logic.{_⊎_, inl, inr, _↔_}
-use Prim.Native.Nat.{ℕ, zero, suc, _+_, _-_, _*_, _<_, _≤_, pred}
+use mathlib.Core.Logic.{_⊎_, inl, inr}
+use Prim.Native.Nat.{ℕ, zero, suc, _-_, _*_, _<_, _≤_, pred}
 use native.Mathlib.Omega.{arith}
 use lib.Dec.{eqb}
-use lib.ListN.{length, getD}
-use borrow.Author.Tests.{eq-eqb, ne-eqb, eqb-true}
+use lib.ListN.{getD}
+use borrow.Author.Tests.{eq-eqb, eqb-true}
 use Rattle.parts.specs.Limits.{cells-max, names-max, waiting-max, loops-max}
 use Rattle.parts.specs.Sides.{name, cell, Pair, _:=_, code, side, code-side}
 use Rattle.parts.specs.Sides as Plain
@@ -21,7 +21,7 @@ use Rattle.model.specs.Proofs.Tabled.{acts}
 use Rattle.model.specs.Rows.{NoRoom, for-interaction, for-loop, for-joined-loop, Joined}
 use Rattle.model.specs.Sound.{SoundTable, Sound}
 use Rattle.model.specs.State.{St, equation, bound}
-use Rattle.model.specs.Step.{Answer, refused, act, picked, place, stepped, taken-out, wire}
+use Rattle.model.specs.Step.{refused, act, picked, place, stepped, taken-out, wire}
 use Rattle.model.specs.Stopped.{refused-13}
 use Rattle.model.specs.Table.{Table}
 use Rattle.state.specs.Moves.{out-of-waiting, Pullable}

@@ -1,19 +1,19 @@
 -- One law for each way out of the public call `step`.
-use mathlib.Core.Path.{_≡_, refl, ap, ap₂, subst, sym, _∙_}
+use mathlib.Core.Path.{_≡_, ap, subst, sym, _∙_}
 use mathlib.Core.Bool.{Bool, true, false}
 use mathlib.Core.List.{List}
-use mathlib.Core.Logic.{_⊎_, inl, inr, _↔_}
+use mathlib.Core.Logic.{_↔_}
 use Prim.Native.Nat.{ℕ, _<_, _≤_}
 use native.Mathlib.Omega.{arith}
 use Rattle.model.specs.Proofs.Runs.{past-answers}
 use Rattle.model.specs.State.{St}
-use Rattle.model.specs.Step.{moved, refused, stepped}
+use Rattle.model.specs.Step.{stepped}
 use Rattle.state.specs.Layout.{view}
 use Rattle.sound.specs.Lent.{under}
 use Rattle.kept.specs.declared.Kept.{Kept}
 use Rattle.lent.specs.Both.{BothSound, table-given, sound-state}
-use Rattle.lent.specs.Decided.{if-sound, where-sound, where-not}
-use Rattle.machine.specs.Calls.{Out, out, made, number, answered, step-told, step-called}
+use Rattle.lent.specs.Decided.{where-sound, where-not}
+use Rattle.machine.specs.Calls.{out, number, answered, step-told, step-called}
 use Rattle.machine.specs.Picked.{Steppable, Went}
 use Rattle.machine.specs.declared.outcome.Outcome.{Outcome}
 use Rattle.machine.specs.declared.outcome.Outcome.the-variants.{Linked, Interacted, Spent, NoRoom}

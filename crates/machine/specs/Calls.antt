@@ -1,6 +1,6 @@
 -- What the public calls promise: the answer by document 01's number, and the state afterwards.
 use mathlib.Core.List.{List}
-use Prim.Native.Nat.{ℕ, _<_}
+use Prim.Native.Nat.{ℕ}
 use native.Mathlib.Decide.{decLt}
 use Rattle.parts.specs.Limits.{budget-max}
 use Rattle.model.specs.State.{St}

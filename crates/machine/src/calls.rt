@@ -10,12 +10,12 @@ use lent::both_sound;
 use parts::Limits;
 use state::Pile;
 ghost use mathlib.Core.Path.{_≡_};
-ghost use Prim.Native.Nat.{ℕ, _+_, _-_, _*_, _<_, _≤_};
+ghost use Prim.Native.Nat.{_-_, _<_, _≤_};
 ghost use Rattle.parts.specs.Limits.{budget-max};
 ghost use Rattle.state.specs.Layout.{view};
 ghost use Rattle.sound.specs.Lent.{under};
 ghost use Rattle.machine.specs.Calls.{out, step-told, step-called, run-told, ran-out, run-called};
-ghost use Rattle.machine.specs.Turns.{enough, Turnable, TurnAs};
+ghost use Rattle.machine.specs.Turns.{enough, Turnable};
 
 pub enum StepAnswer {
     // the step was made

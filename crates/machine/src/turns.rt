@@ -5,7 +5,7 @@ use kept::Kept;
 use parts::Limits;
 use state::Pile;
 ghost use mathlib.Core.Path.{_≡_};
-ghost use Prim.Native.Nat.{ℕ, _+_, _-_, _*_, _<_, _≤_};
+ghost use Prim.Native.Nat.{_+_, _-_, _*_, _<_, _≤_};
 ghost use Rattle.parts.specs.Limits.{budget-max};
 ghost use Rattle.state.specs.Layout.{view};
 ghost use Rattle.sound.specs.Lent.{under};

@@ -1,6 +1,6 @@
 -- Why what is kept stays right when the word of a name is new, and the laws of the two that ask for a loop.
 use Prim.Native.Nat.{ℕ, zero, suc, _+_, _-_, _<_, _≤_, min}
-use mathlib.Core.Path.{_≡_, refl, ap, sym, _∙_}
+use mathlib.Core.Path.{_≡_, refl, ap, sym}
 use mathlib.Core.Bool.{Bool, true, false}
 use mathlib.Core.List.{List, [], _∷_}
 use native.Mathlib.Decide.{ℕ-discrete}
@@ -21,7 +21,7 @@ use Rattle.state.specs.declared.Part.the-variants.{Names}
 use Rattle.kept.specs.Right.{Right}
 use Rattle.kept.specs.declared.Kept.{Kept}
 use Rattle.wiring.specs.Keeping.{Renamable, lowered, renamed, Came}
-use Rattle.wiring.specs.Wiring.{pick, bound, loop-here, Wirable}
+use Rattle.wiring.specs.Wiring.{bound, loop-here, Wirable}
 
 few-used : (l : List ℕ) → used l ≤ length l
 few-used [] = omega arith

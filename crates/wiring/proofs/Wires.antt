@@ -1,16 +1,16 @@
 -- One law for each way out of the wiring functions, and what dropping keeps.
 use Prim.Native.Nat.{ℕ, zero, suc, _+_, _-_, _*_, _<_, _≤_}
-use mathlib.Core.Path.{_≡_, refl, ap, subst, sym, _∙_}
+use mathlib.Core.Path.{_≡_, ap, subst, _∙_}
 use mathlib.Core.Bool.{Bool, true, false}
 use mathlib.Core.List.{List, [], _∷_}
 use native.Mathlib.Omega.{arith}
-use lib.Dec.{ltb, eqb}
-use lib.ListN.{length, getD, set, length-set}
+use lib.Dec.{ltb}
+use lib.ListN.{getD, set, length-set}
 use borrow.Author.Tests.{lt-ltb, le-ltb, eq-eqb, ne-eqb}
 use mir.Syntax.{w16, w32}
 use mir.Val.{Fits}
-use Rattle.parts.specs.Limits.{waiting-max, names-max, cells-max}
-use Rattle.parts.specs.Sides.{Pair, _:=_, cell, code, side, code-side}
+use Rattle.parts.specs.Limits.{names-max, cells-max}
+use Rattle.parts.specs.Sides.{Pair, cell, code, side, code-side}
 use Rattle.parts.specs.Typed.{plain, pair, number, typed, plain-typed}
 use Rattle.parts.specs.declared.Equation.{Equation}
 use Rattle.parts.specs.declared.NameNo.{NameNo}
@@ -27,7 +27,7 @@ use Rattle.kept.specs.Right.{Right}
 use Rattle.kept.specs.declared.Kept.{Kept}
 use Rattle.wiring.specs.Keeping.{Came}
 use Rattle.wiring.specs.Wires.{counts, wire-is}
-use Rattle.wiring.specs.Wiring.{pick, bound, bonds-end, Wirable, Countable, Ready, end-of, loosened, dropped, loop-counted, joined, fastened, wired}
+use Rattle.wiring.specs.Wiring.{pick, bound, bonds-end, Wirable, Countable, Ready, end-of, loosened, dropped, fastened, wired}
 
 -- the state meant, written otherwise
 came-as : {s t u : St} {k : Kept} → Came s k t → t ≡ u → Came s k u

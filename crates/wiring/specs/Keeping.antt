@@ -1,5 +1,5 @@
 -- What is kept beside a state, once the word of a name is new.
-use Prim.Native.Nat.{ℕ, zero, suc, _+_, _-_, _<_, _≤_, min}
+use Prim.Native.Nat.{ℕ, zero, suc, _+_, _-_, _≤_, min}
 use mathlib.Core.Path.{_≡_}
 use Rattle.parts.specs.Limits.{names-max}
 use Rattle.model.specs.State.{St}

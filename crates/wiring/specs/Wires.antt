@@ -1,13 +1,12 @@
 -- Wiring in the shape of the code is the wiring of the model.
 use mathlib.Core.Path.{_≡_, refl, ap, ap₂, sym, _∙_}
-use mathlib.Core.Bool.{Bool, true, false}
-use mathlib.Core.List.{List}
+use mathlib.Core.Bool.{false}
 use Prim.Native.Nat.{ℕ, zero, suc, _+_, _-_, _<_, _≤_}
 use native.Mathlib.Decide.{ℕ-discrete, decLt}
 use native.Mathlib.Omega.{arith}
-use lib.Dec.{ltb, eqb}
+use lib.Dec.{ltb}
 use lib.ListN.{getD, set}
-use borrow.Author.Tests.{lt-ltb, le-ltb, eq-eqb, ne-eqb}
+use borrow.Author.Tests.{le-ltb, eq-eqb, ne-eqb}
 use Rattle.parts.specs.Limits.{loops-max}
 use Rattle.parts.specs.Sides.{name, cell, code, side}
 use Rattle.parts.specs.Sides as Plain
@@ -15,14 +14,12 @@ use Rattle.parts.specs.Typed.{plain, typed, plain-typed}
 use Rattle.parts.specs.declared.NameNo.{NameNo}
 use Rattle.parts.specs.declared.Side.{Side}
 use Rattle.parts.specs.declared.Side.the-variants.{Name, Cell}
-use Rattle.model.specs.State.{St, with-names, with-loops, Bond, to, bond}
-use Rattle.model.specs.Step.{Answer, moved, refused, follow, follow-by, Followed, fasten, wire, looped, joined}
+use Rattle.model.specs.State.{St, with-names, with-loops, to, bond}
+use Rattle.model.specs.Step.{Answer, moved, refused, follow, follow-by, fasten, wire, looped, joined}
 use Rattle.state.specs.Places.{stored}
 use Rattle.state.specs.Places as Places
 use Rattle.state.specs.Moves.{put-on}
-use Rattle.state.specs.declared.Part.the-variants.{Names}
 use Rattle.wiring.specs.Wiring.{pick, end-of, loosened, dropped, fastened, wired}
-use Rattle.wiring.specs.Wiring as Code
 
 -- A side followed: its end, and the state with its tie or join dropped.
 pub followed : (t : Side) (s : St)

@@ -4,7 +4,7 @@ use mathlib.Core.Path.{_≡_}
 use mathlib.Core.Bool.{Bool, true, false}
 use lib.ListN.{length, getD}
 use lib.Dec.{ltb, eqb}
-use Rattle.parts.specs.Limits.{cells-max, names-max, waiting-max, loops-max}
+use Rattle.parts.specs.Limits.{cells-max, names-max, waiting-max}
 use Rattle.parts.specs.Sides.{_:=_, cell, code, side}
 use Rattle.parts.specs.Typed.{plain, number, typed}
 use Rattle.parts.specs.declared.NameNo.{NameNo}

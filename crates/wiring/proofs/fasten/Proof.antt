@@ -3,7 +3,6 @@ use borrow.Author.Needs.{needs}
 use Rattle.wiring.proofs.Wires.{name-small, cell-small, countable-names, fasten-names, fasten-left, fasten-right, fasten-cells}
 use Rattle.wiring.proofs.fasten.Statement.{statement}
 use Rattle.wiring.proofs.fasten.Tie as tie
-use Rattle.wiring.proofs.tie.Reads as tie-reads
 
 enum-known-l : tie.Need-enum-known-l
 enum-known-l c = search (needs, name-small, cell-small, countable-names, fasten-names, fasten-left, fasten-right, fasten-cells)
