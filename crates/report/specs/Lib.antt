@@ -1,0 +1,4 @@
+pub mod Numbers
+pub mod Firsts
+pub mod Stores
+pub mod Begun
