@@ -15,7 +15,7 @@ use Rattle.texts.specs.Books.{Agent}
 use Rattle.table.specs.Layout.{agentsIn}
 use Rattle.state.specs.Layout.{view}
 use Rattle.sound.specs.Lent.{under}
-use Rattle.lent.specs.Both.{BothSound, sound-table, sound-state}
+use Rattle.lent.specs.Both.{sound-table, sound-state}
 use Rattle.lent.specs.Decided.{where-sound}
 use Rattle.answers.specs.Answer.{Answer}
 use Rattle.answers.specs.Main.{bytes-printed}
@@ -28,7 +28,7 @@ use Rattle.answer.specs.declared.Given.{Given}
 use Rattle.answer.specs.declared.Given.the-variants.{Unsound, Waits, Long, Read}
 use Rattle.printing.specs.Puts.{Puts, far}
 use Rattle.report.specs.Begun.{Begun}
-use Rattle.report.specs.Firsts.{wordAnswer, refusal, first-max}
+use Rattle.report.specs.Firsts.{wordAnswer, refusal}
 use Rattle.report.specs.Firsts as First
 use Rattle.report.specs.Stores.{puts-then}
 use Rattle.evaluation.specs.Evaluated.{output-max, ending}

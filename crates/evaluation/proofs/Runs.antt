@@ -1,31 +1,26 @@
 -- A run of a sound state: it is never refused, it leaves a sound state, and what is printed of it.
-use Prim.Native.Nat.{ℕ, _+_, _≤_, _<_}
+use Prim.Native.Nat.{ℕ, _<_}
 use mathlib.Core.Path.{_≡_, refl, sym, ap, _∙_, subst}
 use mathlib.Core.List.{List}
 use native.Mathlib.Decide.{decLt}
 use native.Mathlib.Omega.{arith}
-use lib.ListN.{length}
 use Rattle.parts.specs.Limits.{budget-max}
 use Rattle.model.specs.Agree.{Stopped, Because}
 use Rattle.model.specs.Kept.{walk-sound}
 use Rattle.model.specs.Run.{Stop, ended, paused, noroom, Ran, ran}
-use Rattle.model.specs.Sound.{Sound, SoundTable}
-use Rattle.model.specs.State.{St}
+use Rattle.model.specs.Sound.{Sound}
 use Rattle.model.specs.Stopped.{run-is-right}
-use Rattle.model.specs.Table.{Table}
-use Rattle.texts.specs.Books.{Agent}
 use Rattle.table.specs.Layout.{agentsIn}
 use Rattle.state.specs.Layout.{view}
 use Rattle.sound.specs.Lent.{under}
 use Rattle.lent.specs.Both.{BothSound, sound-table, sound-state, table-given, both-of}
 use Rattle.lent.specs.Decided.{where-sound}
-use Rattle.machine.specs.Calls.{Told, made, stopped, number, Out, out, run-told, stood, ran-out, run-called}
+use Rattle.machine.specs.Calls.{made, stopped, number, Out, out, run-told, stood, ran-out, run-called}
 use Rattle.machine.specs.declared.calls.RunAnswer.{RunAnswer}
 use Rattle.machine.specs.declared.calls.RunAnswer.the-variants.{Ended, Paused, NoRoom, Unsound, TooMuch}
-use Rattle.printing.specs.Puts.{Puts}
 use Rattle.answers.specs.Printer.{state-answer}
 use Rattle.report.specs.Begun.{Begun}
-use Rattle.report.specs.Firsts.{wordPaused, wordNoroom, first-max}
+use Rattle.report.specs.Firsts.{wordPaused, wordNoroom}
 use Rattle.report.specs.Firsts as First
 use Rattle.evaluation.specs.Evaluated.{budget, ending, stopping, running}
 use Rattle.evaluation.specs.Printed.{Printed, Endable}

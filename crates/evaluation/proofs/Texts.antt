@@ -1,19 +1,16 @@
 -- The two texts: what is printed where one is refused, and that two accepted texts load a sound state.
-use Prim.Native.Nat.{ℕ, _≤_}
+use Prim.Native.Nat.{ℕ}
 use mathlib.Core.Path.{_≡_, refl, sym, ap, _∙_, subst}
-use mathlib.Core.Bool.{Bool, true, false, cond, _&&_}
-use mathlib.Core.List.{List, [], _∷_}
+use mathlib.Core.Bool.{true, _&&_}
+use mathlib.Core.List.{List}
 use mathlib.Core.Option.{Option, none, some}
 use native.Mathlib.Omega.{arith}
-use lib.ListN.{length}
-use lib.Seq.{sets}
 use Rattle.model.specs.Kept.{load-sound}
 use Rattle.model.specs.Load.{loaded}
 use Rattle.model.specs.Run.{ran}
 use Rattle.model.specs.Sound.{Sound}
-use Rattle.model.specs.State.{St}
 use Rattle.texts.specs.Answers.{OfText, accepted, refused}
-use Rattle.texts.specs.Books.{Agent, Book, Net, wordRules, wordNet}
+use Rattle.texts.specs.Books.{Book, Net, wordRules, wordNet}
 use Rattle.texts.specs.Bytes.{same}
 use Rattle.texts.specs.Coded.{tableOf, machine, load}
 use Rattle.texts.specs.Good.{GoodBook}
@@ -21,7 +18,6 @@ use Rattle.texts.specs.Main.{rule-text-accepted, net-text-accepted, net-loads, 
 use Rattle.texts.specs.NetText.{readNet, netRead}
 use Rattle.texts.specs.Proofs.Tools.{same-refl}
 use Rattle.texts.specs.RuleText.{readRules}
-use Rattle.texts.specs.TableTest.{testTable}
 use Rattle.table.specs.Layout.{agentsIn, bytesOf, tableBytes}
 use Rattle.table.specs.Layout as Table
 use Rattle.table.specs.Testing.{Given}
@@ -31,12 +27,12 @@ use Rattle.lent.specs.Both.{BothSound, stands-for, under-is, given-tested, give
 use Rattle.rules.specs.Answer.{Refusal, refusal, left, leftBy, rulesRead}
 use Rattle.rules.specs.declared.RulesAnswer.{RulesAnswer}
 use Rattle.rules.specs.declared.RulesAnswer.the-variants as Rules
-use Rattle.nets.specs.Answer.{Call, filled, kept, told, soundTable, callBy, netCall}
+use Rattle.nets.specs.Answer.{filled, kept, told, soundTable, callBy, netCall}
 use Rattle.nets.specs.declared.NetAnswer.{NetAnswer}
 use Rattle.nets.specs.declared.NetAnswer.the-variants as Nets
 use Rattle.report.specs.Begun.{Begun}
 use Rattle.report.specs.Firsts as First
-use Rattle.evaluation.specs.Evaluated.{budget, output-size, running, net-printed, rules-printed, evaluated}
+use Rattle.evaluation.specs.Evaluated.{budget, running, net-printed, rules-printed, evaluated}
 use Rattle.evaluation.specs.Printed.{Printed}
 use Rattle.evaluation.proofs.Runs.{begun-printed}
 

@@ -1,2 +1,3 @@
 pub mod Evaluated
 pub mod Printed
+pub mod Main

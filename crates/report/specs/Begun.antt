@@ -1,6 +1,6 @@
 -- What the writers of first lines promise, and one law for each of them.
 use Prim.Native.Nat.{ℕ, _+_, _<_, _≤_}
-use mathlib.Core.Path.{_≡_, sym, subst, _∙_}
+use mathlib.Core.Path.{_≡_, subst}
 use mathlib.Core.List.{List, [], _∷_, _++_, append-assoc, append-nil}
 use native.Mathlib.Omega.{arith}
 use lib.ListN.{length}
@@ -8,7 +8,7 @@ use Rattle.texts.specs.Bytes.{Word, textOf, lineOf, tabbed}
 use Rattle.printing.specs.Puts.{Puts}
 use Rattle.report.specs.Numbers.{digits, number-max}
 use Rattle.report.specs.Firsts.{wordRefused, wordRan, wordEnded, refusal, stopped, ended, word-max, first-max}
-use Rattle.report.specs.Stores.{puts-then, puts-long, digits-short}
+use Rattle.report.specs.Stores.{puts-then, digits-short}
 
 -- The bytes bs stand at the start of the output, and r is the place after them.
 pub record Begun (bs o : List ℕ) (r : ℕ) (o′ : List ℕ) : Type 0 where
@@ -19,9 +19,6 @@ pub record Begun (bs o : List ℕ) (r : ℕ) (o′ : List ℕ) : Type 0 where
 pub tab-then : (w o o₁ o₂ : List ℕ) (at p r : ℕ) → Puts (9 ∷ []) at o p o₁ → Puts w p o₁ r o₂ → Puts (9 ∷ w) at o r o₂
 tab-then w o o₁ o₂ at p r s t = puts-then s t
 
-pub tab-word : (w o o₁ : List ℕ) (at p far : ℕ) → at + 1 + length w ≤ far → Puts (9 ∷ []) at o p o₁ → p + length w ≤ far
-tab-word w o o₁ at p far h s = omega (arith, s .place)
-
 pub tab-number : (n at p far : ℕ) (o o₁ : List ℕ) → n < 18446744073709551616 → at + number-max ≤ far → Puts (9 ∷ []) at o p o₁
     → p + length (digits n) ≤ far
 tab-number n at p far o o₁ b h s = omega (arith, s .place, digits-short n b)
@@ -29,9 +26,6 @@ tab-number n at p far o o₁ b h s = omega (arith, s .place, digits-short n b)
 pub tab-room : (n at p r : ℕ) (o o₁ o₂ : List ℕ) → n < 18446744073709551616 → Puts (9 ∷ []) at o p o₁ → Puts (digits n) p o₁ r o₂
     → r ≤ at + number-max
 tab-room n at p r o o₁ o₂ b s t = omega (arith, s .place, t .place, digits-short n b)
-
-pub two-long : (a b o o₁ o₂ : List ℕ) (at p r : ℕ) → Puts a at o p o₁ → Puts b p o₁ r o₂ → length o₂ ≡ length o
-two-long a b o o₁ o₂ at p r s t = puts-long t ∙ puts-long s
 
 -- A line of a word and three fields; and of a word and five.
 module _ (v w m n : Word) where

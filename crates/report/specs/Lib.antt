@@ -2,3 +2,4 @@ pub mod Numbers
 pub mod Firsts
 pub mod Stores
 pub mod Begun
+pub mod Main

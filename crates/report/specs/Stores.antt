@@ -1,17 +1,16 @@
 -- Bytes stored one run after another, and how long a number and a first line are.
-use Prim.Native.Nat.{ℕ, zero, suc, _+_, _*_, _/_, _%_, _^_, _<_, _≤_}
+use Prim.Native.Nat.{ℕ, zero, suc, _+_, _*_, _/_, _%_, _<_, _≤_}
 use mathlib.Core.Path.{_≡_, refl, sym, ap, _∙_, subst}
-use mathlib.Core.List.{List, [], _∷_, _++_, append-assoc, append-nil}
+use mathlib.Core.List.{List, [], _∷_, _++_}
 use native.Mathlib.Nat.{div-eq-of-lt, div-lt-self, div-lt-iff-lt-mul, mod-eq-of-lt}
 use native.Mathlib.Decide.{decLt}
 use native.Mathlib.Omega.{arith}
 use native.Mathlib.Numerals.{add-one}
 use lib.ListN.{length, getD, set, take, length-append}
 use lib.Seq.{sets, length-sets, take-suc, take-all}
-use Rattle.texts.specs.Bytes.{Word, textOf, lineOf, tabbed}
+use Rattle.texts.specs.Bytes.{Word}
 use Rattle.printing.specs.Puts.{Puts}
 use Rattle.report.specs.Numbers.{last, grown, spelt, digits}
-use Rattle.report.specs.Firsts.{wordRefused, wordRan, wordEnded, refusal, stopped, ended, first-max}
 
 sets-append : (a b o : List ℕ) (n : ℕ) → sets o n (a ++ b) ≡ sets (sets o n a) (n + length a) b
 sets-append [] b o n = let z : n + 0 ≡ n = omega arith in rw z
