@@ -1,0 +1,16 @@
+pub mod Promises
+pub mod Unique
+pub mod Asked
+pub mod Arrays
+pub mod Answered
+pub mod Faults
+pub mod Proofs
+pub mod Demand1Rules
+pub mod Demand1Nets
+pub mod Demand1
+pub mod Demand2
+pub mod Picks
+pub mod Demand3
+pub mod Program
+pub mod Bench
+pub mod NonEmpty
