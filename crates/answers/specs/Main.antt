@@ -19,7 +19,7 @@ use Rattle.model.specs.Walk.{Walk}
 use Rattle.model.specs.AtEnd.{ended-normal}
 use Rattle.model.specs.Proofs.Walks.{sound-valid}
 use Rattle.model.specs.Proofs.Frame.{good-of}
-use Rattle.model.specs.Proofs.Wired.{good-closed}
+use Rattle.model.specs.Proofs.PoolNet.{good-closed}
 use Rattle.texts.specs.Books.{Agent}
 use Rattle.texts.specs.Terms.{spell}
 use Rattle.texts.specs.Proofs.Reader.{termOf}

@@ -24,6 +24,7 @@ pub mod AnswerBytes
 pub mod ReadBack
 pub mod Context
 pub mod Along
+pub mod Meeting
 pub mod Gather
 pub mod Collecting
 pub mod Spot

@@ -13,8 +13,10 @@ pub mod Cellwork
 pub mod Frame
 pub mod Books
 pub mod Moves
+pub mod PoolNet
 pub mod Wired
 pub mod Fresh
+pub mod Writing
 pub mod Fired
 pub mod Stepped
 pub mod Ended
@@ -32,4 +34,5 @@ pub mod Tabled
 pub mod Agreed
 pub mod Cellslaw
 pub mod Refused
+pub mod Truths
 pub mod Tested

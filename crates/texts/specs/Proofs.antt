@@ -6,6 +6,7 @@ pub mod Linear
 pub mod Loads
 pub mod Means
 pub mod NetExact
+pub mod NetLines
 pub mod NetMeans
 pub mod NetSound
 pub mod NetRead
@@ -37,10 +38,12 @@ pub mod Clauses
 pub mod Agents
 pub mod TermLists
 pub mod Backward
+pub mod Faultless
 pub mod Exact
 pub mod CellReading
 pub mod Wires
 pub mod Rows
+pub mod Standing
 pub mod Entries
 pub mod Tables
 pub mod Trees

@@ -7,20 +7,20 @@ use native.Mathlib.Omega.{arith}
 use lib.ListN.{length}
 use Rattle.calculus.specs.Terms.{Sort, one, many, Tree, var, node, nil, cons, Term, Terms, Eqn, _==_, names, δ, count}
 use Rattle.calculus.specs.Terms.{_∼_, step}
-use Rattle.calculus.specs.Proofs.Count.{δ-same, δ-other, sum-append, if-no}
+use Rattle.calculus.specs.Proofs.Count.{δ-same, δ-other, sum-append}
 use Rattle.calculus.specs.Proofs.Ended.{touches, touches-∼}
 use Rattle.calculus.specs.Proofs.Perm.{perm-length}
 use Rattle.calculus.specs.Proofs.Sub.{whole, back}
 use Rattle.answers.specs.Answer.{Pick, alone, beside, pick, Found, unknown, known, find, Reader, Reading, named}
 use Rattle.answers.specs.Answer.{read, stuck}
-use Rattle.answers.specs.Proofs.Order.{PickIs, pick-is, rest-once}
-use Rattle.answers.specs.Proofs.Knot.{found-more}
+use Rattle.answers.specs.Proofs.Order.{PickIs, pick-is}
 use Rattle.answers.specs.Proofs.Whole.{read-agree}
 use Rattle.answers.specs.Proofs.Readings.{read-cons, read-node, read-nil, read-name}
 use Rattle.answers.specs.Proofs.Counts.{stuck-∼}
 use Rattle.answers.specs.Proofs.Wired.{wired, wired-∼}
 use Rattle.answers.specs.Proofs.Context.{Place, within, head, tail, plug, plug-count, Allowed, all-allowed}
-use Rattle.answers.specs.Proofs.Along.{size, Along, plain-known, plain-new, one-more}
+use Rattle.answers.specs.Proofs.Along.{size, Along, plain-known, plain-new}
+use Rattle.answers.specs.Proofs.Meeting.{met-known, met-alone, met-joined, joined-free, joined-new, met-tied, tied-wired}
 
 -- `Reach ts l us m`: from the terms ts and the equations l one comes to us and m.
 module _
@@ -75,15 +75,7 @@ module _
         (sym (plain-known x j R (sym (A .agree x (omega (arith, δ-same x))) ∙ e)))
         (record {
           shown = refl;
-          along =
-              record {
-                next = A .next;
-                bare = A .bare;
-                once = A .once;
-                met = A .met;
-                agree = λ z k. A .agree z (omega (arith, k));
-                twice = λ z. omega (arith, A .twice z);
-              };
+          along = met-known x S R rest A;
           fewer = λ z. omega arith;
           shrinks = λ z. omega arith;
           settled = λ z k. here z (ℕ-discrete z x) k;
@@ -120,19 +112,7 @@ module _
         (sym (plain-new x R (sym (A .agree x (omega (arith, δ-same x))) ∙ e) (A .bare)))
         (record {
           shown = ap var (A .next);
-          along =
-              record {
-                next = ap suc (A .next);
-                bare = A .bare;
-                once = A .once;
-                met = found-more (record { name = x; number = S .next }) (S .numbers) (S .left) i (A .met);
-                agree =
-                    λ z k. one-more z x (S .next) (R .next) (S .numbers) (R .numbers) (A .next) (A .agree z (omega (
-                      arith,
-                      k,
-                    )));
-                twice = λ z. omega (arith, A .twice z);
-              };
+          along = met-alone x S R rest A i;
           fewer = λ z. omega arith;
           shrinks = λ z. omega arith;
           settled = λ z k. here z (ℕ-discrete z x) k;
@@ -166,36 +146,10 @@ module _
     gather-joined x y r S R rest A e i =
         subst
         (Made (var x) S rest _ (var y))
-        (sym (plain-new y R (sym (A .agree y (omega (arith, wired-∼ y i, δ-same y))) ∙ y-new (find y (S .numbers)) refl) (A .bare)))
+        (sym (plain-new y R (sym (A .agree y (omega (arith, wired-∼ y i, δ-same y))) ∙ joined-new x y r S R rest A i (find y (S .numbers)) refl) (A .bare)))
         (record {
           shown = ap var (A .next);
-          along =
-              record {
-                next = ap suc (A .next);
-                bare = A .bare;
-                once = rest-once i (A .once);
-                met =
-                    found-more
-                    (record { name = x; number = S .next })
-                    (record { name = y; number = S .next } ∷ S .numbers)
-                    r
-                    (omega (arith, A .once x, touches-∼ x i, δ-same x))
-                    (found-more
-                    (record { name = y; number = S .next })
-                    (S .numbers)
-                    r
-                    y-not
-                    (λ z j q. omega (arith, A .met z j q, touches-∼ z i)));
-                agree =
-                    λ z k.
-                    if-no (known (S .next)) (find z (record { name = y; number = S .next } ∷ S .numbers)) (x-gone z k)
-                    ∙ one-more z y (S .next) (R .next) (S .numbers) (R .numbers) (A .next) (A .agree z (omega (
-                      arith,
-                      k,
-                      wired-∼ z i,
-                    )));
-                twice = λ z. omega (arith, A .twice z, wired-∼ z i);
-              };
+          along = met-joined x y r S R rest A i;
           fewer = λ z. omega (arith, wired-∼ z i);
           shrinks = λ z. omega (arith, touches-∼ z i);
           settled = λ z k. here z (ℕ-discrete z y) k;
@@ -205,21 +159,8 @@ module _
           reach = λ c o v. follow c o x (var y) (S .left) r i v;
         })
       where
-        y-not : touches y r ≡ 0
-        y-not = omega (arith, A .once y, touches-∼ y i, δ-same y)
-
-        y-new : (f : Found) → find y (S .numbers) ≡ f → find y (S .numbers) ≡ unknown
-        y-new unknown q = q
-        y-new (known j) q = absurd (omega (arith, A .met y j q, touches-∼ y i, δ-same y))
-
-        x-gone : (z : ℕ) → 0 < count z rest + wired z r → ¬ (z ≡ x)
-        x-gone z k q =
-            let p : count x rest + wired x r ≡ 0 = omega (arith, A .twice x, wired-∼ x i, δ-same x) in
-            let g : count z rest + wired z r ≡ 0 = ap (λ w. count w rest + wired w r) q ∙ p in
-            omega (arith, k, g)
-
         here : (z : ℕ) → Dec (z ≡ y) → 0 < count z (y ∷ []) → touches z r ≡ 0
-        here z (yes q) k = ap (λ w. touches w r) q ∙ y-not
+        here z (yes q) k = ap (λ w. touches w r) q ∙ joined-free x y r S R rest A i
         here z (no q) k = absurd (omega (arith, k, δ-other q))
 
     gather-tied : (n x a : ℕ) (us : Terms) (r : List Eqn) (S R : Reader) (rest : List ℕ) → Along (x ∷ rest) S R
@@ -232,7 +173,7 @@ module _
       record {
         shown = g .made .shown;
         along = g .made .along;
-        fewer = λ z. omega (arith, g .made .fewer z, counts z);
+        fewer = λ z. omega (arith, g .made .fewer z, tied-wired x a us r S R rest A i z);
         shrinks = λ z. omega (arith, g .made .shrinks z, touches-∼ z i);
         settled = g .made .settled;
         kept = step (g .made .kept) (back (stuck-∼ i));
@@ -251,27 +192,15 @@ module _
             (g .made .reach c tt (λ z. omega (
               arith,
               v z,
-              counts z,
+              tied-wired x a us r S R rest A i z,
               plug-count z c (var x),
               plug-count z c (node a us),
             )));
       },
     )
       where
-        counts : (z : ℕ) → wired z (S .left) ≡ δ z x + count z (names us) + wired z r
-        counts z = omega (arith, wired-∼ z i)
-
         g : Gathered n (node a us) (record { next = S .next; numbers = S .numbers; left = r }) R rest
-        g =
-            h
-            (record {
-              next = A .next;
-              bare = A .bare;
-              once = rest-once i (A .once);
-              met = λ z j q. omega (arith, A .met z j q, touches-∼ z i);
-              agree = λ z k. A .agree z (omega (arith, k, counts z, sum-append (δ z) (names us) rest));
-              twice = λ z. omega (arith, A .twice z, counts z, sum-append (δ z) (names us) rest);
-            })
+        g = h (met-tied x a us r S R rest A i)
 
     gather-name : (n b : ℕ) → Gathers n b → (x : ℕ) (S R : Reader) (rest : List ℕ) → length (S .left) ≤ b
         → length (S .left) ≤ n

@@ -4,14 +4,15 @@ use mathlib.Core.Path.{_≡_, sym, ap, _∙_}
 use mathlib.Core.Bool.{Bool, false, not, _||_}
 use mathlib.Core.List.{List, [], _∷_, _++_, append-nil}
 use native.Mathlib.Omega.{arith}
-use lib.ListN.{length, length-append}
+use lib.ListN.{length}
 use Rattle.texts.specs.Bytes.{Word, any, keep}
 use Rattle.texts.specs.Terms.{Term, Node, nodesAt, nodes, wordsOf}
-use Rattle.texts.specs.Books.{Agent, declared, cellsOf, namesOf}
+use Rattle.texts.specs.Books.{Agent, declared, namesOf}
 use Rattle.texts.specs.Coded.{packed, size, cellsAt}
 use Rattle.texts.specs.RuleText.{wrongArgs, bigNode}
 use Rattle.texts.specs.Proofs.Tools.{neither, any-append, keep-append}
 use Rattle.texts.specs.Proofs.Linear.{words-append, cell-count}
+use Rattle.texts.specs.Proofs.Loads.{cells-cons}
 use Rattle.terms.specs.Meaning.{grown, Room}
 use Rattle.terms.specs.Proofs.Numbers.{grown-append, grown-longer}
 use Rattle.line_terms.specs.Meaning.{Roomy}
@@ -38,13 +39,6 @@ module _ (t : Term) (ts : List Term) where
         ap (keep (λ w. not (declared ags w))) words-cons
         ∙ keep-append (λ w. not (declared ags w)) (wordsOf (nodes (t ∷ []))) (wordsOf (nodes ts))
 
-    pub cells-cons : length (cellsOf ags (t ∷ ts)) ≡ size ags t + length (cellsOf ags ts)
-    unfolding cellsOf size
-    cells-cons =
-        ap (λ (ws : List Word). length (keep (declared ags) ws)) words-cons
-        ∙ (ap length (keep-append (declared ags) (wordsOf (nodes (t ∷ []))) (wordsOf (nodes ts)))
-        ∙ length-append (keep (declared ags) (wordsOf (nodes (t ∷ [])))) (keep (declared ags) (wordsOf (nodes ts))))
-
     pub grown-cons : (ws : List Word)
         → grown ws (namesOf ags (t ∷ ts)) ≡ grown (grown ws (namesOf ags (t ∷ []))) (namesOf ags ts)
     grown-cons ws = ap (grown ws) names-cons ∙ grown-append ws (namesOf ags (t ∷ [])) (namesOf ags ts)
@@ -63,7 +57,7 @@ module _ (t : Term) (ts : List Term) where
         short = r .short;
         arities = r .arities;
         small = none-cons bigNode (r .small) .0;
-        cells = omega (arith, r .cells, cells-cons);
+        cells = omega (arith, r .cells, cells-cons ags t ts);
         names = omega (arith, r .names, ap length (grown-cons ws), grown-longer (grown ws (namesOf ags (t ∷ []))) (namesOf ags ts));
       }
 
@@ -72,6 +66,6 @@ module _ (t : Term) (ts : List Term) where
         short = r .short;
         arities = r .arities;
         small = none-cons bigNode (r .small) .1;
-        cells = omega (arith, r .cells, cells-cons);
+        cells = omega (arith, r .cells, cells-cons ags t ts);
         names = omega (arith, r .names, ap length (grown-cons ws));
       }

@@ -8,41 +8,21 @@ use native.Mathlib.Omega.{arith}
 use lib.ListN.{length, take, drop, length-append}
 use lib.Seq.{take-nil, drop-nil, take-all, drop-length, drop-append-add, take-append-add}
 use Rattle.texts.specs.Bytes.{Word, keep, fields, letter, digit, wordByte}
-use Rattle.texts.specs.Terms.{Term, Node, nodes, wordsOf}
+use Rattle.texts.specs.Terms.{Term, nodes, wordsOf}
 use Rattle.texts.specs.Books.{Agent, declared, cellsOf, namesOf}
 use Rattle.texts.specs.RuleText.{termsOf}
 use Rattle.texts.specs.Proofs.Splitting.{fields-cons, fields-last}
 use Rattle.texts.specs.Proofs.Means.{spell-terms}
-use Rattle.texts.specs.Proofs.Passes.{metIn, met-nodes}
-use Rattle.texts.specs.Proofs.Walk.{Met, depth, met, walk, seen}
+use Rattle.texts.specs.Proofs.Passes.{metIn, met-nodes, words-seen}
+use Rattle.texts.specs.Proofs.Walk.{Met, depth, met, walk}
 use Rattle.scan.specs.Cutting.{fieldStart}
 use Rattle.scan.specs.Words.{wordsIn}
+use Rattle.scan.specs.Laws.Wording.{level-free}
 use Rattle.lines.specs.Words.{wordsOfAll}
 use Rattle.lines.specs.Laws.Fields.{Cut, more, only, cut, start-zero, start-more, start-only}
 
 abbrev wordOf : Met → Word
 wordOf m = m .word
-
-met-level : (w : Word) (d e : ℕ) → map wordOf (met w d) ≡ map wordOf (met w e)
-unfolding met
-met-level [] d e = refl
-met-level (b ∷ w) d e = refl
-
--- the words are the same at any level
-level-free : (l : List ℕ) (w : Word) (d e : ℕ) → map wordOf (walk d w l) ≡ map wordOf (walk e w l)
-unfolding walk
-level-free [] w d e = met-level w d e
-level-free (b ∷ s) w d e =
-    go (wordByte b) (level-free s (w ++ (b ∷ [])) d e) (level-free s [] (depth d b) (depth e b))
-  where
-    go : (t : Bool) → map wordOf (walk d (w ++ (b ∷ [])) s) ≡ map wordOf (walk e (w ++ (b ∷ [])) s)
-        → map wordOf (walk (depth d b) [] s) ≡ map wordOf (walk (depth e b) [] s)
-        → map wordOf (cond t (walk d (w ++ (b ∷ [])) s) (met w d ++ walk (depth d b) [] s))
-        ≡ map wordOf (cond t (walk e (w ++ (b ∷ [])) s) (met w e ++ walk (depth e b) [] s))
-    go true p q = p
-    go false p q =
-        map-append wordOf (met w d) (walk (depth d b) [] s)
-        ∙ (rw (met-level w d e, q) (sym (map-append wordOf (met w e) (walk (depth e b) [] s))))
 
 -- a tab parts words
 walk-tab : (w : Word) (d : ℕ) (rest : List ℕ) → walk d w (9 ∷ rest) ≡ met w d ++ walk d [] rest
@@ -168,11 +148,6 @@ all-met : (fs : List Word) → wordsOfAll fs ≡ map wordOf (metIn fs)
 unfolding wordsOfAll metIn wordsIn
 all-met [] = refl
 all-met (f ∷ fs) = rw (all-met fs) (sym (map-append wordOf (walk 0 [] f) (metIn fs)))
-
-words-seen : (ns : List Node) → map wordOf (map seen ns) ≡ wordsOf ns
-unfolding wordsOf seen
-words-seen [] = refl
-words-seen (n ∷ ns) = rw (words-seen ns)
 
 pub words-terms : (fs : List Word) (ts : List Term) → termsOf fs ≡ some ts → wordsOfAll fs ≡ wordsOf (nodes ts)
 words-terms fs ts h =

@@ -27,8 +27,9 @@ use Rattle.model.specs.Proofs.Frame.{frame-waiting, Framed, good-of, fra
 use Rattle.model.specs.Proofs.Moves.{Outcome, Kind, wiring, Moves, by-straight, by-turned}
 use Rattle.model.specs.Proofs.Parts.{PairSides, PairSides-equivalence, Part, part, turn}
 use Rattle.model.specs.Proofs.Pool.{regood, Good, conf, Refit}
+use Rattle.model.specs.Proofs.PoolNet.{same-net}
 use Rattle.model.specs.Proofs.Store.{pigeon}
-use Rattle.model.specs.Proofs.Wired.{same-net, wired}
+use Rattle.model.specs.Proofs.Wired.{wired}
 
 -- What a search for a rule finds.
 abbrev pub For : ℕ → ℕ → Entry → Type 0

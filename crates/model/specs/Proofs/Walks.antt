@@ -25,9 +25,9 @@ use Rattle.model.specs.Proofs.Books.{book-sound}
 use Rattle.model.specs.Proofs.Frame.{good-of}
 use Rattle.model.specs.Proofs.Moves.{Outcome, cost, Kind, Moves, wiring, right-cells, by-turned}
 use Rattle.model.specs.Proofs.Moves.{coms-interactions, steps-append, by-straight, coms-uses}
+use Rattle.model.specs.Proofs.PoolNet.{good-valid}
 use Rattle.model.specs.Proofs.Stepped.{step-is-right}
 use Rattle.model.specs.Proofs.Sums.{below-plus, below-δ, below-zero}
-use Rattle.model.specs.Proofs.Wired.{good-valid}
 
 -- A walk from a sound state: where it ends is sound, and it is read as a sequence of steps of the calculus with the
 -- same interactions.

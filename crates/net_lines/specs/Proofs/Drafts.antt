@@ -19,7 +19,7 @@ use Rattle.texts.specs.Proofs.Tools.{any-append, noneOf}
 use Rattle.texts.specs.Proofs.Means.{spell-terms}
 use Rattle.texts.specs.Proofs.NetMeans.{nodes-append}
 use Rattle.texts.specs.Proofs.Linear.{cell-count}
-use Rattle.texts.specs.Proofs.Loads.{cells-append}
+use Rattle.texts.specs.Proofs.Loads.{cells-append, codes-append}
 use Rattle.table.specs.Lists.{tab}
 use Rattle.table.specs.Laws.Lists.{tab-list}
 use Rattle.terms.specs.Sheet.{Sheet}
@@ -30,7 +30,7 @@ use Rattle.line_terms.specs.Main.{fields-read}
 use Rattle.net_lines.specs.Draft.{named, OnSheet, InCodes, Draft}
 use Rattle.net_lines.specs.Taking.{put, Took}
 use Rattle.net_lines.specs.Proofs.Names.{named-append, named-on, named-stays}
-use Rattle.net_lines.specs.Proofs.Codes.{codes-append, codes-length, cells-both}
+use Rattle.net_lines.specs.Proofs.Codes.{codes-length, cells-both}
 
 holds-by : {text : List ℕ} {s : Sheet} {a b : List Cell} {v w : List Word} → a ≡ b → v ≡ w → Holds text s a v → Holds text s b w
 holds-by {text} {s} {a} {b} {v} {w} e f h = subst (λ l. Holds text s l w) e (subst (λ l. Holds text s a l) f h)

@@ -19,13 +19,14 @@ use Rattle.texts.specs.Coded.{packed, twos, codes, cellsFrom, netNumber, load}
 use Rattle.texts.specs.TableTest.{arityAt, cellOk}
 use Rattle.texts.specs.Proofs.Tools.{both}
 use Rattle.texts.specs.Proofs.TableSound.{all-cells-ok}
+use Rattle.texts.specs.Proofs.Loads.{codes-append}
 use Rattle.table.specs.Lists.{tab}
 use Rattle.table.specs.Laws.Lists.{length-tab, tab-at, tab-list}
 use Rattle.terms.specs.Sheet.{Sheet}
 use Rattle.terms.specs.Meaning.{number, CellIs, CellsAre, Holds}
 use Rattle.loading.specs.OnSheet.{symbolOn, widthOn, cellOn, cellsOn, faceOn, equationOn, equationsOn, netOn}
 use Rattle.net_lines.specs.Draft.{named, Draft}
-use Rattle.net_lines.specs.Proofs.Codes.{codes-append, codes-length}
+use Rattle.net_lines.specs.Proofs.Codes.{codes-length}
 use Rattle.net_lines.specs.Proofs.Whole.{net-length}
 
 -- The cells.

@@ -27,7 +27,7 @@ met-level [] d e = refl
 met-level (b ∷ w) d e = refl
 
 -- the words are the same at any level
-level-free : (l : List ℕ) (w : Word) (d e : ℕ) → map wordOf (walk d w l) ≡ map wordOf (walk e w l)
+pub level-free : (l : List ℕ) (w : Word) (d e : ℕ) → map wordOf (walk d w l) ≡ map wordOf (walk e w l)
 unfolding walk
 level-free [] w d e = met-level w d e
 level-free (b ∷ s) w d e =

@@ -1,8 +1,7 @@
 -- A coded rule passes the test exactly if it is sound as the machine asks.
-use Prim.Native.Nat.{ℕ, zero, suc, _+_, _*_, _-_, _<_, _≤_}
+use Prim.Native.Nat.{ℕ, zero, suc, _+_, _<_, _≤_}
 use mathlib.Core.Path.{_≡_, refl, sym, ap, ap₂, subst, _∙_}
 use mathlib.Core.Bool.{Bool, true, false, not, _&&_, _||_}
-use mathlib.Core.Logic.{inl, inr}
 use mathlib.Core.List.{List, [], _++_, map}
 use native.Mathlib.Omega.{arith}
 use native.Mathlib.Decide.{decLt}
@@ -10,8 +9,8 @@ use lib.ListN.{length, getD}
 use lib.Dec.{eqb, ltb}
 use borrow.Author.Tests.{eqb-true, eq-eqb, lt-ltb, ltb-true}
 use Rattle.parts.specs.Limits.{arity-max}
-use Rattle.calculus.specs.Terms.{Eqn, _∼_, eqs-names, names, sub-eqn, ren, δ, count}
-use Rattle.calculus.specs.Proofs.Count.{sum-append, sum-perm}
+use Rattle.calculus.specs.Terms.{_∼_, eqs-names, names, sub-eqn, ren, δ, count}
+use Rattle.calculus.specs.Proofs.Count.{sum-perm}
 use Rattle.calculus.specs.Calculus.{Rule}
 use Rattle.calculus.specs.Rules.{Level, exchange-lists, Plain}
 use Rattle.calculus.specs.Proofs.Rules.{plain-two-sided, reordered-of-counts}
@@ -28,8 +27,9 @@ use Rattle.texts.specs.Proofs.Tools.{both, pair, In, all-true, true-all,
 use Rattle.texts.specs.Proofs.Linear.{tally-append}
 use Rattle.texts.specs.Proofs.Clauses.{to-standing, of-standing, Clauses, clauses-of, tested, Place, on-left, on-right, is-new, place, of-place}
 use Rattle.texts.specs.Proofs.CellReading.{Read, walk-reads, walked, Equations, equations, Sidewise, sidewise, name-count, cell-count}
-use Rattle.texts.specs.Proofs.Wires.{Wire, pairOf, eqnOf, ends, wires-of, ends-names, level, Arg, Once, unchanged}
-use Rattle.texts.specs.Proofs.Rows.{from-out, from-in, from-where, in-order, final, numbered-of, final-most, final-least, all-at, at-all, counted-in, in-counted}
+use Rattle.texts.specs.Proofs.Wires.{pairOf, eqnOf, wires-of, level, unchanged}
+use Rattle.texts.specs.Proofs.Rows.{from-in, from-where, in-order, final, numbered-of, final-most, final-least, all-at, at-all, counted-in, in-counted}
+use Rattle.texts.specs.Proofs.Standing.{right-names, counts, Where, inside, outside, find, often, place-counts, out-counts, once, wired}
 
 module _ (ags : List Agent) (few : (n : ℕ) → arityAt ags n ≤ arity-max) (T : Model.Table) (many : length (T .arities) ≡ length ags)
     (arities : (s : ℕ) → arity T s ≡ arityAt ags s) (e : Entry) where
@@ -44,109 +44,6 @@ module _ (ags : List Agent) (few : (n : ℕ) → arityAt ags n ≤ arity-max) (T
 
   held : (j : ℕ) → j < length (e .cells) → mem (0 + j) ≡ getD (e .cells) j no-cell
   held j l = let z : 0 + j ≡ j = omega arith in rw z
-
-  -- the names of the rule: each argument once, each new name twice
-  abbrev right-names : List ℕ
-  right-names = from 0 a ++ (from second-from b ++ (from new-from (e .fresh) ++ from new-from (e .fresh)))
-
-  counts : (x : ℕ) → count x right-names ≡ count x (from 0 a) + count x (from second-from b) + 2 * count x (from new-from (e .fresh))
-  counts x =
-      let p = sum-append (δ x) (from 0 a) (from second-from b ++ (from new-from (e .fresh) ++ from new-from (e .fresh))) in
-      let q = sum-append (δ x) (from second-from b) (from new-from (e .fresh) ++ from new-from (e .fresh)) in
-      let r = sum-append (δ x) (from new-from (e .fresh)) (from new-from (e .fresh)) in
-      omega (arith, p, q, r)
-
-  -- where a number is
-  data Where (x : ℕ) : Type 0 where
-    inside : Place ags e x → Where x
-    outside : a ≤ x → (second-from ≤ x → second-from + b ≤ x) → (new-from ≤ x → new-from + e .fresh ≤ x) → Where x
-
-  find : (x : ℕ) → Where x
-  find x = go (decLt x a) (decLt x second-from) (decLt x (second-from + b)) (decLt x new-from) (decLt x (new-from + e .fresh))
-    where
-      go : Dec (x < a) → Dec (x < second-from) → Dec (x < second-from + b) → Dec (x < new-from) → Dec (x < new-from + e .fresh) → Where x
-      go (yes l) q r s t = inside (on-left l)
-      go (no l) (no m) (yes n) s t = inside (on-right (x - second-from) (omega (arith, m)) (omega (arith, m, n)))
-      go (no l) (yes m) r s t = outside (omega (arith, l)) (λ o. absurd (omega (arith, o, m))) (λ o. absurd (omega (arith, o, m)))
-      go (no l) (no m) (no n) (no o) (yes p) = inside (is-new (x - new-from) (omega (arith, o)) (omega (arith, o, p)))
-      go (no l) (no m) (no n) (yes o) t = outside (omega (arith, l)) (λ i. omega (arith, n)) (λ i. absurd (omega (arith, i, o)))
-      go (no l) (no m) (no n) (no o) (no p) = outside (omega (arith, l)) (λ i. omega (arith, n)) (λ i. omega (arith, p))
-
-  -- how often, by place
-  often : {x : ℕ} → Place ags e x → ℕ
-  often (on-left l) = 1
-  often (on-right j z l) = 1
-  often (is-new k z l) = 2
-
-  place-counts : (x : ℕ) (p : Place ags e x) → (count x right-names ≡ often p) × (count x (from 0 a) + count x (from second-from b) + count x (from new-from (e .fresh)) ≡ 1)
-  unfolding often
-  place-counts x (on-left l) =
-      let f = few (e .left) in
-      let p = from-in a 0 x (omega arith) (omega (arith, l)) in
-      let q = from-out b second-from x (λ o. absurd (omega (arith, o, l, f))) in
-      let r = from-out (e .fresh) new-from x (λ o. absurd (omega (arith, o, l, f))) in
-      let c = counts x in
-      (omega (arith, c, p, q, r), omega (arith, p, q, r))
-  place-counts x (on-right j z l) =
-      let f = few (e .left) in
-      let g = few (e .right) in
-      let p = from-out a 0 x (λ o. omega (arith, z, f)) in
-      let q = from-in b second-from x (omega (arith, z)) (omega (arith, z, l)) in
-      let r = from-out (e .fresh) new-from x (λ o. absurd (omega (arith, o, z, l, g))) in
-      let c = counts x in
-      (omega (arith, c, p, q, r), omega (arith, p, q, r))
-  place-counts x (is-new k z l) =
-      let f = few (e .left) in
-      let g = few (e .right) in
-      let p = from-out a 0 x (λ o. omega (arith, z, f)) in
-      let q = from-out b second-from x (λ o. omega (arith, z, g)) in
-      let r = from-in (e .fresh) new-from x (omega (arith, z)) (omega (arith, z, l)) in
-      let c = counts x in
-      (omega (arith, c, p, q, r), omega (arith, p, q, r))
-
-  out-counts : (x : ℕ) → a ≤ x → (second-from ≤ x → second-from + b ≤ x) → (new-from ≤ x → new-from + e .fresh ≤ x)
-      → (count x (from 0 a) ≡ 0) × (count x (from second-from b) ≡ 0) × (count x (from new-from (e .fresh)) ≡ 0)
-  out-counts x h k l = (from-out a 0 x (λ o. omega (arith, h)), from-out b second-from x k, from-out (e .fresh) new-from x l)
-
-  once : (x : ℕ) → count x (from 0 a ++ (from second-from b ++ from new-from (e .fresh))) ≤ 1
-  once x =
-      let p = sum-append (δ x) (from 0 a) (from second-from b ++ from new-from (e .fresh)) in
-      let q = sum-append (δ x) (from second-from b) (from new-from (e .fresh)) in
-      go (find x) p q
-    where
-      go : Where x → count x (from 0 a ++ (from second-from b ++ from new-from (e .fresh))) ≡ count x (from 0 a) + count x (from second-from b ++ from new-from (e .fresh))
-          → count x (from second-from b ++ from new-from (e .fresh)) ≡ count x (from second-from b) + count x (from new-from (e .fresh))
-          → count x (from 0 a ++ (from second-from b ++ from new-from (e .fresh))) ≤ 1
-      go (inside i) p q = let z = place-counts x i .1 in omega (arith, p, q, z)
-      go (outside h k l) p q = let z = out-counts x h k l in let u = z .0 in let v = z .1 in let w = z .2 in omega (arith, p, q, u, v, w)
-
-  -- a rule of wires alone
-  wired : (es : List Eqn) → e .left ≡ e .right → e .fresh ≡ 0 → ((x : ℕ) → count x (eqs-names es) ≡ count x right-names) → (ws : List Wire) → es ≡ map eqnOf ws
-      → ((x : ℕ) → 0 < count x (ends ws) → Arg a (few (e .left)) x) × Once (ends ws)
-  wired es same none-new c ws w = (
-    λ x k. go x (find x) (let z = c x in let y = n x in omega (arith, k, z, y)),
-    λ x. at x (find x) (c x) (n x),
-  )
-    where
-      n : (x : ℕ) → count x (eqs-names es) ≡ count x (ends ws)
-      n x = ap (λ l. count x (eqs-names l)) w ∙ ap (count x) (ends-names ws)
-
-      equal : b ≡ a
-      equal = ap (arityAt ags) (sym same)
-
-      go : (x : ℕ) → Where x → 0 < count x right-names → Arg a (few (e .left)) x
-      go x (inside (on-left l)) k = inl l
-      go x (inside (on-right j z l)) k = inr (omega (arith, z), omega (arith, z, l, equal))
-      go x (inside (is-new i z l)) k = absurd (omega (arith, l, none-new))
-      go x (outside h i l) k = let z = out-counts x h i l in let u = z .0 in let v = z .1 in let y = z .2 in let q = counts x in absurd (omega (arith, k, q, u, v, y))
-
-      at : (x : ℕ) → Where x → count x (eqs-names es) ≡ count x right-names → count x (eqs-names es) ≡ count x (ends ws) → count x (ends ws) ≤ 1
-      at x (inside p) i j =
-          let u = place-counts x p .1 in
-          let o = from-out (e .fresh) new-from x (λ y. omega (arith, y, none-new)) in
-          let q = counts x in
-          omega (arith, i, j, u, o, q)
-      at x (outside h k l) i j = let z = out-counts x h k l in let u = z .0 in let v = z .1 in let y = z .2 in let q = counts x in omega (arith, i, j, u, v, y, q)
 
   -- all sides, and those that the walk meets
   name-tally : walk 0 (unpaired (e .body)) (e .cells) ≡ true → (x : ℕ) → count x (met (unpaired (e .body)) (e .cells)) ≡ tally (sameSide (name x)) (allCodes e)
@@ -182,7 +79,7 @@ module _ (ags : List Agent) (few : (n : ℕ) → arityAt ags n ≤ arity-max) (T
     met-names : eqs-names (eqns .eqs) ≡ met (unpaired (e .body)) (e .cells)
     met-names = eqns .same-names ∙ read .names-met
 
-    tallies : (x : ℕ) (p : Place ags e x) → tally (sameSide (name x)) (allCodes e) ≡ often p
+    tallies : (x : ℕ) (p : Place ags e x) → tally (sameSide (name x)) (allCodes e) ≡ often ags few e p
     unfolding often
     tallies x (on-left l) = let z : 0 + x ≡ x = omega arith in rw z at (of-standing 1 (allCodes e) 0 a (c .left-once) x l)
     tallies x (on-right j z l) = rw z (of-standing 1 (allCodes e) second-from b (c .right-once) j l)
@@ -195,17 +92,17 @@ module _ (ags : List Agent) (few : (n : ℕ) → arityAt ags n ≤ arity-max) (T
         go (yes k) = absurd (h (place ags e x (all-true (codeOk ags e) (name x) (allCodes e) (c .codes-ok) (in-counted x (allCodes e) k))))
         go (no k) = omega (arith, k)
 
-    linear : (x : ℕ) → count x (eqs-names (eqns .eqs)) ≡ count x right-names
-    linear x = ap (count x) met-names ∙ (name-tally (c .walked) x ∙ go (find x))
+    linear : (x : ℕ) → count x (eqs-names (eqns .eqs)) ≡ count x (right-names ags few e)
+    linear x = ap (count x) met-names ∙ (name-tally (c .walked) x ∙ go (find ags few e x))
       where
-        go : Where x → tally (sameSide (name x)) (allCodes e) ≡ count x right-names
-        go (inside p) = tallies x p ∙ sym (place-counts x p .0)
+        go : Where ags few e x → tally (sameSide (name x)) (allCodes e) ≡ count x (right-names ags few e)
+        go (inside p) = tallies x p ∙ sym (place-counts ags few e x p .0)
         go (outside h k l) =
-            let z = out-counts x h k l in
+            let z = out-counts ags few e x h k l in
             let u = z .0 in
             let v = z .1 in
             let w = z .2 in
-            let q = counts x in
+            let q = counts ags few e x in
             not-there x none ∙ omega (arith, u, v, w, q)
           where
             none : Place ags e x → ⊥
@@ -226,7 +123,7 @@ module _ (ags : List Agent) (few : (n : ℕ) → arityAt ags n ≤ arity-max) (T
     plain q =
         let s = self q in
         let w = wires-of mem (e .body) (eqns .eqs) (from 0 (length (e .cells))) (eqns .reads) (ap (from 0) (s .0)) in
-        let u = wired (eqns .eqs) q (s .1) linear (w .0) (w .2) in
+        let u = wired ags few e (eqns .eqs) q (s .1) linear (w .0) (w .2) in
         let t : all (λ p. any (turnsTo p) (map pairOf (w .0))) (map pairOf (w .0)) ≡ true = subst (λ l. all (λ p. any (turnsTo p) l) l ≡ true) (w .1) (s .2) in
         let equal : a ≡ b = ap (arityAt ags) q in
         let p = unchanged a (few (e .left)) (w .0) (u .0) (u .1) .0 t in
@@ -250,9 +147,9 @@ module _ (ags : List Agent) (few : (n : ℕ) → arityAt ags n ≤ arity-max) (T
         in-order = subst (InOrder 0) (sym met-names) (in-order (e .fresh) (met (unpaired (e .body)) (e .cells)) 0 (c .in-order));
       };
       proper = record {
-        different = once;
-        linear = reordered-of-counts (eqs-names (eqns .eqs)) right-names linear;
-        two-sided = λ q. plain-two-sided rule once (plain q);
+        different = once ags few e;
+        linear = reordered-of-counts (eqs-names (eqns .eqs)) (right-names ags few e) linear;
+        two-sided = λ q. plain-two-sided rule (once ags few e) (plain q);
       };
       left = rw many (c .left-symbol);
       right = rw many (c .right-symbol);
@@ -279,28 +176,28 @@ module _ (ags : List Agent) (few : (n : ℕ) → arityAt ags n ≤ arity-max) (T
     body-names : eqs-names (r .body) ≡ met (unpaired (e .body)) (e .cells)
     body-names = sym (sides .same-names) ∙ steps .1
 
-    lists : r .xs ++ (r .ys ++ (r .new ++ r .new)) ≡ right-names
+    lists : r .xs ++ (r .ys ++ (r .new ++ r .new)) ≡ right-names ags few e
     lists =
         ap₂ _++_ (s .means .xs ∙ ap (from 0) (arities (e .left)))
         (ap₂ _++_ (s .means .ys ∙ ap (from second-from) (arities (e .right))) (ap₂ _++_ (s .means .new) (s .means .new)))
 
-    body-counts : (x : ℕ) → count x (eqs-names (r .body)) ≡ count x right-names
+    body-counts : (x : ℕ) → count x (eqs-names (r .body)) ≡ count x (right-names ags few e)
     body-counts x = sum-perm (δ x) (s .proper .linear) ∙ ap (count x) lists
 
-    side-counts : (x : ℕ) → tally (sameSide (name x)) (allCodes e) ≡ count x right-names
+    side-counts : (x : ℕ) → tally (sameSide (name x)) (allCodes e) ≡ count x (right-names ags few e)
     side-counts x = sym (name-tally (steps .0) x) ∙ (ap (count x) (sym body-names) ∙ body-counts x)
 
-    placed : (x : ℕ) → 0 < count x right-names → Place ags e x
-    placed x k = go (find x)
+    placed : (x : ℕ) → 0 < count x (right-names ags few e) → Place ags e x
+    placed x k = go (find ags few e x)
       where
-        go : Where x → Place ags e x
+        go : Where ags few e x → Place ags e x
         go (inside p) = p
         go (outside h i l) =
-            let z = out-counts x h i l in
+            let z = out-counts ags few e x h i l in
             let u = z .0 in
             let v = z .1 in
             let w = z .2 in
-            let q = counts x in
+            let q = counts ags few e x in
             absurd (omega (arith, k, q, u, v, w))
 
     side-ok : (d : Side) → In d (allCodes e) → codeOk ags e d ≡ true
@@ -316,8 +213,8 @@ module _ (ags : List Agent) (few : (n : ℕ) → arityAt ags n ≤ arity-max) (T
         let l = w .1 in
         lt-ltb d (length (e .cells)) (omega (arith, l))
 
-    at-place : (x : ℕ) (p : Place ags e x) → tally (sameSide (name x)) (allCodes e) ≡ often p
-    at-place x p = side-counts x ∙ place-counts x p .0
+    at-place : (x : ℕ) (p : Place ags e x) → tally (sameSide (name x)) (allCodes e) ≡ often ags few e p
+    at-place x p = side-counts x ∙ place-counts ags few e x p .0
 
     cell-is : (m : ℕ) → m < length (e .cells) → cellOk ags (mem m) ≡ true
     unfolding cellOk
@@ -344,7 +241,7 @@ module _ (ags : List Agent) (few : (n : ℕ) → arityAt ags n ≤ arity-max) (T
         go (suc n) h =
             let u = upper in
             let z = body-counts (new-from + n) in
-            let q = counts (new-from + n) in
+            let q = counts ags few e (new-from + n) in
             let i = from-in (e .fresh) new-from (new-from + n) (omega arith) (omega (arith, h)) in
             let l = final-least (eqs-names (r .body)) 0 .1 (new-from + n) (omega (arith, z, q, i)) in
             omega (arith, u, h, l)
@@ -366,7 +263,7 @@ module _ (ags : List Agent) (few : (n : ℕ) → arityAt ags n ≤ arity-max) (T
         let n = no-fresh (p .0 .none-new) in
         let z : length (e .cells) ≡ 0 = ap length (p .1) in
         let w = wires-of mem (e .body) (r .body) (from 0 (length (e .cells))) (s .means .reads) (ap (from 0) z) in
-        let u = wired (r .body) q n body-counts (w .0) (w .2) in
+        let u = wired ags few e (r .body) q n body-counts (w .0) (w .2) in
         let x : r .xs ≡ from 0 a = s .means .xs ∙ ap (from 0) (arities (e .left)) in
         let y : r .ys ≡ from second-from a = s .means .ys ∙ ap (from second-from) (arities (e .right) ∙ ap (arityAt ags) (sym q)) in
         let k : map (sub-eqn (ren (exchange-lists (from 0 a) (from second-from a)))) (map eqnOf (w .0)) ∼ map eqnOf (w .0) =

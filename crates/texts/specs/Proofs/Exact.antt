@@ -20,7 +20,8 @@ use Rattle.texts.specs.Proofs.BookSound.{sound-table}
 use Rattle.texts.specs.Proofs.PairTable.{pair-table}
 use Rattle.texts.specs.TableTest.{pairTest, agentOk, testAgents, testTemplate, testTemplates, testTable}
 use Rattle.texts.specs.Proofs.Forward.{table-pass}
-use Rattle.texts.specs.Proofs.Backward.{rule, template-back, no-7, no-8, no-10, no-big, spelt, sound-rule}
+use Rattle.texts.specs.Proofs.Backward.{rule, template-back}
+use Rattle.texts.specs.Proofs.Faultless.{no-7, no-8, no-10, no-big, spelt, sound-rule}
 use Rattle.texts.specs.Good.{Good, GoodFrom, GoodBook, Spelt, Placed, SoundRule, SoundTable}
 
 -- A sound table passes.

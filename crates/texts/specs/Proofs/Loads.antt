@@ -25,7 +25,7 @@ use Rattle.texts.specs.Proofs.Templates.{unpaired-twos, codes-even, tall
 unfoldable pub allSides : Loading.Net → List Side
 allSides l = (l .face ++ unpaired (l .equations)) ++ argsAll (l .cells)
 
-cells-cons : (ags : List Agent) (t : Term) (ts : List Term) → length (cellsOf ags (t ∷ ts)) ≡ size ags t + length (cellsOf ags ts)
+pub cells-cons : (ags : List Agent) (t : Term) (ts : List Term) → length (cellsOf ags (t ∷ ts)) ≡ size ags t + length (cellsOf ags ts)
 unfolding cellsOf size nodes
 cells-cons ags t ts =
     rw (words-append (nodesAt 1 t) (nodes ts), keep-append (declared ags) (wordsOf (nodesAt 1 t)) (wordsOf (nodes ts)), append-nil (nodesAt 1 t))
@@ -35,7 +35,7 @@ cells-nil : (ags : List Agent) → length (cellsOf ags []) ≡ 0
 unfolding cellsOf nodes wordsOf keep
 cells-nil ags = refl
 
-codes-append : (ags : List Agent) (number : Word → ℕ) (ts us : List Term) (m : ℕ)
+pub codes-append : (ags : List Agent) (number : Word → ℕ) (ts us : List Term) (m : ℕ)
     → codes ags number m (packed (ts ++ us)) ≡ codes ags number m (packed ts) ++ codes ags number (m + length (cellsOf ags ts)) (packed us)
 unfolding codes packed
 codes-append ags number [] us m = let z : m + 0 ≡ m = omega arith in rw (cells-nil ags, z)

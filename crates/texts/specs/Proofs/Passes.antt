@@ -73,7 +73,7 @@ unfolding any bigMet bigNode seen
 big-seen [] = refl
 big-seen (n ∷ ns) = rw (big-seen ns)
 
-words-seen : (ns : List Node) → map (λ m. m .word) (map seen ns) ≡ wordsOf ns
+pub words-seen : (ns : List Node) → map (λ m. m .word) (map seen ns) ≡ wordsOf ns
 unfolding wordsOf seen
 words-seen [] = refl
 words-seen (n ∷ ns) = rw (words-seen ns)

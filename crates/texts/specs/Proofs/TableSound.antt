@@ -26,7 +26,7 @@ use Rattle.texts.specs.Proofs.Loads.{allSides, ok as args-ok, load-cells
 use Rattle.texts.specs.Proofs.Templates.{Few, template-cells, right-args, left-once, right-once, new-twice, cell-once}
 use Rattle.texts.specs.Good.{Good, GoodBook, SoundRule, GoodNet}
 
-codes-length : (ags : List Agent) (number : Word → ℕ) (ts : Terms) (m : ℕ) → length (codes ags number m ts) ≡ count ts
+pub codes-length : (ags : List Agent) (number : Word → ℕ) (ts : Terms) (m : ℕ) → length (codes ags number m ts) ≡ count ts
 unfolding codes count
 codes-length ags number nil m = refl
 codes-length ags number (cons t ts) m = ap suc (codes-length ags number ts (m + size ags t))
@@ -193,7 +193,7 @@ net-sizes ags n h =
       ltb-false net-names-max (length (different (namesOf ags (netTerms n)))) (q .1),
     )
 
-packed-count : (ts : List Term) → count (packed ts) ≡ length ts
+pub packed-count : (ts : List Term) → count (packed ts) ≡ length ts
 unfolding packed count
 packed-count [] = refl
 packed-count (t ∷ ts) = ap suc (packed-count ts)
