@@ -4,7 +4,7 @@ use mathlib.Core.Bool.{cond}
 use mathlib.Core.List.{List, _++_}
 use Prim.Native.Nat.{ℕ, zero, suc, _<_}
 use native.Mathlib.Omega.{arith}
-use lib.Dec.{leb}
+use lib.Dec.{leb, eqb}
 use lib.ListN.{length, drop}
 use Rattle.model.specs.Sound.{meaning}
 use Rattle.model.specs.Walk.{Walk}
@@ -14,37 +14,51 @@ use Rattle.sound.specs.Lent.{under}
 use Rattle.lent.specs.Both.{BothSound, sound-table, sound-state}
 use Rattle.lent.specs.Decided.{where-sound, where-not}
 use Rattle.answers.specs.Answer.{Answer, answer}
-use Rattle.answers.specs.Printer.{state-answer}
-use Rattle.answers.specs.Text.{face-line, answer-text, answer-bytes}
+use Rattle.answers.specs.Printer.{state-answer, answer-bytes}
+use Rattle.answers.specs.Text.{face-line, answer-text}
 use Rattle.answers.specs.Printing.{answer-written}
 use Rattle.answers.specs.Main.{state-printed, bytes-printed, no-two-tonnages, same-line}
-use Rattle.answer.specs.Called.{Called, given, fitted, ended, called}
-use Rattle.answer.specs.declared.Given.the-variants.{Unsound, Waits, Long, Read}
-use Rattle.answer.specs.declared.Given.{Given}
+use Rattle.answer.specs.Called.{Told, number, lines, end-told, Called, given, fitted, ended, called}
+use Rattle.answer.specs.declared.EndAnswer.the-variants.{Unsound, Waits, Long, Read}
+use Rattle.answer.specs.declared.EndAnswer.{EndAnswer}
+
+-- No two answers are told alike.
+abbrev pub answer-of : Told → EndAnswer
+answer-of (number n) = cond (eqb n 16) Unsound (cond (eqb n 14) Waits Long)
+answer-of (lines l n k m) = Read l n k m
+
+pub answer-back : (g : EndAnswer) → answer-of (end-told g) ≡ g
+answer-back Unsound = refl
+answer-back Waits = refl
+answer-back Long = refl
+answer-back (Read l n k m) = refl
+
+pub told-once : (g h : EndAnswer) → end-told g ≡ end-told h → g ≡ h
+told-once g h e = sym (answer-back g) ∙ (ap answer-of e ∙ answer-back h)
 
 -- What the call promises is met by one answer and one output only.
-pub only-answer : (w v o : List ℕ) (g h : Given) (p q : List ℕ) → given g p ≡ called w v o → given h q ≡ called w v o
-    → (g ≡ h) × (p ≡ q)
-only-answer w v o g h p q a b = (ap (λ c. c .answer) (a ∙ sym b), ap (λ c. c .out) (a ∙ sym b))
+pub only-answer : (w v o : List ℕ) (g h : EndAnswer) (p q : List ℕ) → given (end-told g) p ≡ called w v o
+    → given (end-told h) q ≡ called w v o → (g ≡ h) × (p ≡ q)
+only-answer w v o g h p q a b = (told-once g h (ap (λ c. c .told) (a ∙ sym b)), ap (λ c. c .out) (a ∙ sym b))
 
 -- 16 first, and for nothing else; then 14.
 module _ (w v o : List ℕ) where
-  pub unsound-refused : ¬ BothSound w v → called w v o ≡ given Unsound o
+  pub unsound-refused : ¬ BothSound w v → called w v o ≡ given (number 16) o
   unfolding called
-  unsound-refused h = where-not w v _ (given Unsound o) h
+  unsound-refused h = where-not w v _ (given (number 16) o) h
 
   module _ (h : BothSound w v) where
     sound-called : called w v o ≡ ended (view v) (answer-written (agentsIn w) (under w) (view v)) o
     unfolding called
-    sound-called = where-sound w v _ (given Unsound o) h
+    sound-called = where-sound w v _ (given (number 16) o) h
 
-    pub waiting-refused : 0 < (view v) .waiting .used → called w v o ≡ given Waits o
+    pub waiting-refused : 0 < (view v) .waiting .used → called w v o ≡ given (number 14) o
     unfolding ended
     waiting-refused b = sound-called ∙ go ((view v) .waiting .used) b
       where
         go : (n : ℕ) → 0 < n
-            → elim n [ zero ↦ fitted (view v) (answer-written (agentsIn w) (under w) (view v)) o | suc k ↦ given Waits o ]
-            ≡ given Waits o
+            → elim n [ zero ↦ fitted (view v) (answer-written (agentsIn w) (under w) (view v)) o | suc k ↦ given (number 14) o ]
+            ≡ given (number 14) o
         go zero b = absurd (omega (arith, b))
         go (suc n) b = refl
 
@@ -53,8 +67,8 @@ unfoldable pub handed : Answer → List ℕ → List ℕ → Called
 handed A text o =
     cond
     (leb (length text) (length o))
-    (given (Read (length text) (A .loops) (A .stuck) (A .knot)) (text ++ drop (length text) o))
-    (given Long o)
+    (given (lines (length text) (A .loops) (A .stuck) (A .knot)) (text ++ drop (length text) o))
+    (given (number 15) o)
 
 -- At the end what is handed over is the answer of the net that the state stands for.
 pub net-answered : (w v o : List ℕ) (h : BothSound w v) → (view v) .waiting .used ≡ 0
@@ -65,9 +79,9 @@ net-answered w v o h e =
     let W = answer-written (agentsIn w) (under w) (view v) in
     let p = bytes-printed (sound-table h) (agentsIn w) (sound-state h) e in
     sound-called w v o h
-    ∙ (ap (λ m. elim m [ zero ↦ fitted (view v) W o | suc k ↦ given Waits o ]) e
+    ∙ (ap (λ m. elim m [ zero ↦ fitted (view v) W o | suc k ↦ given (number 14) o ]) e
     ∙ (ap₂
-    (λ b k. cond (leb (length b) (length o)) (given (Read (length b) ((view v) .loops) ((view v) .stuck .used) k) (b ++ drop (length b) o)) (given Long o))
+    (λ b k. cond (leb (length b) (length o)) (given (lines (length b) ((view v) .loops) ((view v) .stuck .used) k) (b ++ drop (length b) o)) (given (number 15) o))
     (p .0)
     (p .1)
     ∙ ap (λ A. handed A (answer-text (agentsIn w) A) o) (state-printed (sound-table h) (sound-state h) e)))

@@ -6,12 +6,12 @@ use state::Pile;
 use state::count;
 use state::loops;
 ghost use mathlib.Core.Path.{_≡_};
-ghost use Rattle.answer.specs.Called.{given, called};
+ghost use Rattle.answer.specs.Called.{end-told, given, called};
 
-pub mod lines; // lines.rt: the lines of an answer
+mod lines; // lines.rt: the lines of an answer
 
 // What the call answers: three refusals, or the length of the lines, the loops, the stuck pairs and the knot.
-pub enum Given {
+pub enum EndAnswer {
     Unsound,
     Waits,
     Long,
@@ -28,22 +28,22 @@ pub fn read_answer(
     table: &[u8; Limits::TABLE],
     state: &[u16; Limits::STATE],
     out: &mut [u8],
-) -> Given
-    ensures { λ r. ⌜ given r (now (out .exit)) ≡ called (now (table .entry)) (now (state .entry)) (now (out .entry)) ⌝ }
+) -> EndAnswer
+    ensures { λ r. ⌜ given (end-told r) (now (out .exit)) ≡ called (now (table .entry)) (now (state .entry)) (now (out .entry)) ⌝ }
 {
     if !both_sound(table, state) {
-        return Given::Unsound;
+        return EndAnswer::Unsound;
     }
     if count(state, Pile::Waits) != 0 {
-        return Given::Waits;
+        return EndAnswer::Waits;
     }
     let mut none = [0u8; 1];
     let need = print_answer(table, state, &mut none);
     if out.len() < need.at {
-        return Given::Long;
+        return EndAnswer::Long;
     }
     let done = print_answer(table, state, out);
-    Given::Read {
+    EndAnswer::Read {
         length: done.at,
         loops: loops(state),
         stuck: count(state, Pile::Stucks),

@@ -1,5 +1,4 @@
 -- What the printed answer of an ended net is (document 01, "Reading the end").
-use mathlib.Core.Path.{_≡_}
 use mathlib.Core.List.{List, [], _∷_, _++_}
 use Prim.Native.Nat.{ℕ, zero, suc, _+_}
 use lib.ListN.{length}
@@ -57,30 +56,19 @@ pub record Reading (s : Sort) : Type 0 where
   pub shown : Tree s
   pub after : Reader
 
+-- Names left take the next number: one name, or two that are joined; l are the equations then not met.
+abbrev pub take-number : List Numbered → Reader → List Eqn → Reading one
+take-number ns S l = record { shown = var (S .next); after = record { next = suc (S .next); numbers = ns; left = l } }
+
+abbrev pub with-next : ℕ → Reader → Numbered
+with-next x S = record { name = x; number = S .next }
+
 -- "A tied name reads as its term, to whatever depth. Two joined names are one. Names left are printed `_0`, `_1` by
 -- first meeting."
 abbrev pub named : (Term → Reader → Reading one) → ℕ → Reader → Found → Pick → Reading one
 named tied x S (known k) p = record { shown = var k; after = S }
-named tied x S unknown alone =
-    record {
-      shown = var (S .next);
-      after =
-          record {
-            next = suc (S .next);
-            numbers = record { name = x; number = S .next } ∷ S .numbers;
-            left = S .left;
-          };
-    }
-named tied x S unknown (beside (var y) l) =
-    record {
-      shown = var (S .next);
-      after =
-          record {
-            next = suc (S .next);
-            numbers = record { name = x; number = S .next } ∷ record { name = y; number = S .next } ∷ S .numbers;
-            left = l;
-          };
-    }
+named tied x S unknown alone = take-number (with-next x S ∷ S .numbers) S (S .left)
+named tied x S unknown (beside (var y) l) = take-number (with-next x S ∷ with-next y S ∷ S .numbers) S l
 named tied x S unknown (beside (node a ts) l) =
     tied (node a ts) (record { next = S .next; numbers = S .numbers; left = l })
 
@@ -179,12 +167,3 @@ answer C =
       loops = loops (C .eqs);
       knot = tied-agents ((pairs-read C) .after .left);
     }
-
--- Two answers are the same tonnage: the same interface, and as many stuck pairs, loops and agents in the knot. The
--- `eq` lines can differ, as the order of the stuck pairs and the numbers first met in them depend on the order of
--- steps.
-pub record Same (A B : Answer) : Type 0 where
-  pub face : A .face ≡ B .face
-  pub stuck : A .stuck ≡ B .stuck
-  pub loops : A .loops ≡ B .loops
-  pub knot : A .knot ≡ B .knot

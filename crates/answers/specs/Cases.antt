@@ -7,8 +7,9 @@ use native.Mathlib.Omega.{arith}
 use Rattle.calculus.specs.Proofs.Count.{δ-same}
 use Rattle.calculus.specs.Terms.{var, node, nil, cons, Term, _==_, Conf, if-eq}
 use Rattle.parts.specs.Sides.{side}
-use Rattle.model.specs.Step.{stepped}
-use Rattle.model.specs.Run.{Stop, ended, run, ran}
+use Rattle.model.specs.Stepped.{stepped}
+use Rattle.model.specs.Run.{run, ran}
+use Rattle.model.specs.Walk.{Stop, ended}
 use Rattle.model.specs.Load.{Net, loaded}
 use Rattle.model.specs.Cases.{rules}
 use Rattle.model.specs.Cases as Model
@@ -18,8 +19,8 @@ use Rattle.texts.specs.Books.{Agent, pairs, wordFace, wordEq, writeFace, writeE
 use Rattle.answers.specs.Answer.{Answer, answer}
 use Rattle.answers.specs.Knots.{Hangs, here, more, Behind}
 use Rattle.answers.specs.Proofs.Ties.{tied-head}
-use Rattle.answers.specs.Printer.{state-answer}
-use Rattle.answers.specs.Text.{spelling, numeral, answer-text, answer-bytes}
+use Rattle.answers.specs.Printer.{state-answer, answer-bytes}
+use Rattle.answers.specs.Text.{spelling, numeral, answer-text}
 
 -- The agents of the listing: add, S, Z.
 abbrev pub symbols : List Agent

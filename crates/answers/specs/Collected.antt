@@ -3,9 +3,8 @@ use mathlib.Core.Path.{_≡_}
 use mathlib.Core.List.{List, [], _++_}
 use Prim.Native.Nat.{ℕ, _<_}
 use lib.ListN.{length}
-use Rattle.calculus.specs.Terms.{many, Terms, Eqn, Conf, names, count, _∼_}
+use Rattle.calculus.specs.Terms.{many, Terms, Eqn, Conf, names, count, _∼_, touches}
 use Rattle.calculus.specs.Calculus.{Collect, Substitution}
-use Rattle.calculus.specs.Proofs.Ended.{touches}
 use Rattle.answers.specs.Answer.{Reader, Reading, read, stuck, sides, tied-agents, answer}
 
 -- Any number of Collects:  ⟨ t̄ | x = t, Δ ⟩ ⟶ ⟨ t̄[t/x] | Δ ⟩, where x occurs in t̄.

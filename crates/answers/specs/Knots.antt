@@ -3,7 +3,7 @@ use mathlib.Core.Path.{_≡_}
 use mathlib.Core.List.{List, _∷_, _++_}
 use Prim.Native.Nat.{ℕ, _<_}
 use Rattle.calculus.specs.Terms.{var, node, Terms, Eqn, _==_, Conf, names, count, _∼_}
-use Rattle.answers.specs.Answer.{stuck, sides, tied-agents, pairs-read, answer}
+use Rattle.answers.specs.Answer.{stuck, sides, tied-agents, answer}
 
 -- x is tied in some equations: one of them is x = α(t̄). At an end no other equation has x for a side, so a tie is told
 -- by its name.
@@ -41,10 +41,6 @@ pub data Held (C : Conf) : ℕ → Type 0 where
   by-face : {x : ℕ} → 0 < count x (names (C .face)) → Held C x
   by-pair : {x : ℕ} → 0 < count x (names (sides (stuck (C .eqs)))) → Held C x
   by-tie : {x y : ℕ} → Hangs (C .eqs) x y → Held C y → Held C x
-
--- The equations that are left when the end is read.
-abbrev pub never-met : Conf → List Eqn
-never-met C = (pairs-read C) .after .left
 
 -- The equations in two parts: the ties of one part are held, those of the other are on circles or behind them. The
 -- agents that names are tied to in the other part are the knot.

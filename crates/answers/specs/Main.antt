@@ -14,7 +14,8 @@ use Rattle.calculus.specs.Proofs.Ended.{All}
 use Rattle.parts.specs.Limits.{names-max}
 use Rattle.model.specs.State.{St}
 use Rattle.model.specs.Table.{Table}
-use Rattle.model.specs.Sound.{SoundTable, Sound, meaning}
+use Rattle.model.specs.Sound.{Sound, meaning}
+use Rattle.model.specs.SoundTable.{SoundTable}
 use Rattle.model.specs.Walk.{Walk}
 use Rattle.model.specs.AtEnd.{ended-normal}
 use Rattle.model.specs.Proofs.Walks.{sound-valid}
@@ -26,12 +27,14 @@ use Rattle.texts.specs.Proofs.Reader.{termOf}
 use Rattle.texts.specs.Main.{table-machine}
 use Rattle.texts.specs.Coded as Coded
 use Rattle.texts.specs.Good as Good
-use Rattle.answers.specs.Answer.{Reader, read, stuck, agents, tied-agents, net-agents, answer, Answer, Same}
-use Rattle.answers.specs.Printer.{state-answer}
-use Rattle.answers.specs.Text.{texts, face-line, answer-text, answer-bytes}
+use Rattle.answers.specs.Answer.{Reader, read, stuck, agents, tied-agents, net-agents, answer, Answer}
+use Rattle.answers.specs.Same.{Same}
+use Rattle.answers.specs.Printer.{state-answer, answer-bytes}
+use Rattle.answers.specs.Text.{texts, face-line, answer-text}
 use Rattle.answers.specs.Printing.{answer-written}
 use Rattle.answers.specs.Collected.{Collected, Substituted}
-use Rattle.answers.specs.Knots.{Tied, Hangs, Behind, Held, never-met, Knotted}
+use Rattle.answers.specs.Knots.{Tied, Hangs, Behind, Held, Knotted}
+use Rattle.answers.specs.Proofs.Circles.{never-met}
 use Rattle.answers.specs.Proofs.Circles as Circles
 use Rattle.answers.specs.Proofs.Collecting.{collected}
 use Rattle.answers.specs.Proofs.Substituting.{substituted}

@@ -7,7 +7,9 @@ use Rattle.parts.specs.Sides.{Side, name, cell, Pair, _:=_}
 use Rattle.model.specs.Table.{Cell, Table}
 use Rattle.model.specs.Sound.{mem-of, sides}
 use Rattle.model.specs.State.{St, bond, listed, used, Bond, free, bare, to}
+use Rattle.texts.specs.Books.{Agent}
 use Rattle.answers.specs.Answer.{agents, Answer, Numbered, Found, unknown, known, find}
+use Rattle.answers.specs.Text.{answer-text}
 
 pub record Printer : Type 0 where
   pub next : ℕ
@@ -98,3 +100,7 @@ state-answer T s =
       loops = s .loops;
       knot = m - (agents face + agents pairs);
     }
+
+-- What is printed of an ended state.
+unfoldable pub answer-bytes : List Agent → Table → St → List ℕ
+answer-bytes ags T s = answer-text ags (state-answer T s)

@@ -10,7 +10,8 @@ use Rattle.parts.specs.Limits.{arity-max, names-max}
 use Rattle.parts.specs.Sides.{Side, name, cell, Pair, _:=_, side}
 use Rattle.model.specs.State.{St, listed, Stack, bare, to, bond, used}
 use Rattle.model.specs.Table.{Table}
-use Rattle.model.specs.Sound.{SoundTable, Sound, mem-of, width, sides}
+use Rattle.model.specs.Sound.{Sound, mem-of, width, sides}
+use Rattle.model.specs.SoundTable.{SoundTable}
 use Rattle.model.specs.Proofs.Facts.{zeros-length}
 use Rattle.model.specs.Proofs.Ranges.{LiveSide, face-live, stuck-live}
 use Rattle.texts.specs.Bytes.{Word}

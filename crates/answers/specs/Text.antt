@@ -3,13 +3,10 @@ use mathlib.Core.List.{List, [], _∷_, map}
 use Prim.Native.Nat.{ℕ}
 use lib.ListN.{getD}
 use Rattle.calculus.specs.Terms.{Sort, one, many, Tree, var, node, nil, cons, Terms}
-use Rattle.model.specs.State.{St}
-use Rattle.model.specs.Table.{Table}
 use Rattle.texts.specs.Bytes.{Word, decimal, textOf}
 use Rattle.texts.specs.Terms as Spelt
 use Rattle.texts.specs.Books.{Agent, writeFace, writeEquation, pairs}
 use Rattle.answers.specs.Answer.{Answer}
-use Rattle.answers.specs.Printer.{state-answer}
 
 abbrev pub no-agent : Agent
 no-agent = record { symbol = []; arity = 0 }
@@ -48,7 +45,3 @@ eq-lines ags sides = map writeEquation (pairs (texts ags sides))
 -- "The output buffer takes the `face` and `eq` lines with their newlines."
 unfoldable pub answer-text : List Agent → Answer → List ℕ
 answer-text ags A = textOf (face-line ags (A .face) ∷ eq-lines ags (A .pairs))
-
--- What is printed of an ended state.
-unfoldable pub answer-bytes : List Agent → Table → St → List ℕ
-answer-bytes ags T s = answer-text ags (state-answer T s)

@@ -12,10 +12,6 @@ pub record Renaming : Type 0 where
   pub to-from : (x : ℕ) → to (from x) ≡ x
   pub from-to : (x : ℕ) → from (to x) ≡ x
 
--- The renamed configuration.
-abbrev pub rename : (ℕ → ℕ) → Conf → Conf
-rename f C = record { face = sub (ren f) (C .face); eqs = map (sub-eqn (ren f)) (C .eqs) }
-
 -- Two configurations are one net: a bijection of the names carries one to the other, its equations up to order and
 -- sides. Free names, those that occur once, stay as they are: they are how a net is tied to what is around it.
 pub record _≈_ (C D : Conf) : Type 0 where

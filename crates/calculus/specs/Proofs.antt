@@ -1,4 +1,5 @@
 -- Proofs beneath the pages; no page has to be read with them.
+pub mod Diamond
 pub mod Perm
 pub mod Sub
 pub mod Count

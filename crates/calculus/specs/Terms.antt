@@ -2,7 +2,7 @@
 -- and sides; substitution.
 use mathlib.Core.Path.{_≡_}
 use mathlib.Core.List.{List, [], _∷_, _++_}
-use Prim.Native.Nat.{ℕ, _+_}
+use Prim.Native.Nat.{ℕ, _+_, min}
 use native.Mathlib.Decide.{ℕ-discrete}
 
 -- Terms:  t ::= x | α(t₁, …, tₙ). A term is a name, or an agent: a symbol over a sequence of terms. Names and symbols
@@ -65,6 +65,18 @@ count x l = sum (δ x) l
 
 abbrev pub occurs : ℕ → Conf → ℕ
 occurs x C = count x (all-names C)
+
+-- In how many of some equations a name is a side.
+abbrev pub side : ℕ → Term → ℕ
+side x (var y) = δ x y
+side x (node a ts) = 0
+
+abbrev pub touch : ℕ → Eqn → ℕ
+touch x (t == u) = min 1 (side x t + side x u)
+
+abbrev pub touches : ℕ → List Eqn → ℕ
+touches x [] = 0
+touches x (e ∷ l) = touch x e + touches x l
 
 -- `Perm R l m`: m is l with its members in some order, each replaced by one that is R to it.
 pub data Perm {A : Type 0} (R : A → A → Type 0) : List A → List A → Type 0 where

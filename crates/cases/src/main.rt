@@ -1,4 +1,5 @@
-// Runs each case that `index.txt` names through the evaluator, and prints the names of those whose output is not as expected, and how many.
+// Runs each case that `index.txt` names: through the two readers, whose answers are printed, and through the evaluator, whose output
+// is held to the expected one.
 use evaluation::evaluate;
 use evaluation::sizes::Output;
 use files::read_file;
@@ -12,6 +13,8 @@ ghost use Prim.Native.Nat.{_≤_};
 ghost use lib.ListN.{length};
 ghost use Rattle.parts.specs.Limits.{text-max};
 ghost use Rattle.io.specs.Counts.{Counts};
+
+mod readers; // readers.rt: what the two readers answer
 
 const NAME: usize = 60;
 
@@ -41,7 +44,7 @@ fn is_printed(out: &[u8; Output::SIZE], k: usize, expected: &[u8]) -> bool {
     same(part(out, 0, k), expected)
 }
 
-// Whether the output of a case is as expected. An output is never empty, so a case without an expected one differs.
+// The answers to a case, and whether its output is as expected. An output is never empty, so a case without an expected one differs.
 fn agrees(name: &[u8]) -> bool {
     let mut rules = [0u8; Limits::TEXT + 1];
     let mut net = [0u8; Limits::TEXT + 1];
@@ -49,6 +52,7 @@ fn agrees(name: &[u8]) -> bool {
     let r = read_part(name, b".rules", &mut rules);
     let n = read_part(name, b".net", &mut net);
     let e = read_part(name, b".expected", &mut expected);
+    readers::read_both(&rules[..r], &net[..n]);
     let mut out = [0u8; Output::SIZE];
     let k = evaluate(&rules[..r], &net[..n], &mut out);
     is_printed(&out, k, &expected[..e])
@@ -58,11 +62,12 @@ fn agrees(name: &[u8]) -> bool {
 fn try_case(name: &[u8]) -> usize
     ensures { λ r. ⌜ r ≤ 1 ⌝ }
 {
+    print(name);
     if agrees(name) {
+        print(b", as expected\n");
         return 0;
     }
-    print(name);
-    print(b"\n");
+    print(b", differs\n");
     1
 }
 
@@ -108,4 +113,5 @@ fn main() {
     let mut index = [0u8; Limits::TEXT];
     let n = read_file(b"index.txt", &mut index);
     try_index(&index[..n]);
+    readers::read_damaged();
 }

@@ -10,7 +10,7 @@ use lib.Seq.{getD-set-same, getD-set-other}
 use Rattle.parts.specs.Limits.{arity-max, rule-equations-max, rule-cells-max, node-size, net-cells-max}
 use Rattle.texts.specs.Coded.{new-from}
 use Rattle.terms.specs.Sheet.{Sheet}
-use Rattle.coding.specs.Made.{nodeByte, Filled, sideBytes, nodeBytes, Makeable, Made}
+use Rattle.coding.specs.Made.{byte-size, nodeByte, Filled, sideBytes, nodeBytes, Makeable, Made}
 
 pub filled-none : (size : ℕ) (f : ℕ → ℕ) → Filled (replicate size 0) size f 0
 filled-none size f = record { long = length-replicate size 0; each = below-none _ }
@@ -21,11 +21,11 @@ filled-more l size f i v g h e = record {
   each = below-more _ i (λ k q. getD-set-other l i k v 0 (omega (arith, q)) ∙ g .each k q) (getD-set-same l i v 0 (omega (arith, g .long)) ∙ e);
 }
 
-pub node-first : (s : Sheet) (c d j v x : ℕ) → j ≡ 0 → d ≡ c → x ≡ getD (s .symbols) d 0 → v ≡ x % 256 → v ≡ nodeByte s c j
+pub node-first : (s : Sheet) (c d j v x : ℕ) → j ≡ 0 → d ≡ c → x ≡ getD (s .symbols) d 0 → v ≡ x % byte-size → v ≡ nodeByte s c j
 unfolding nodeByte
 node-first s c d j v x ej ed ex ev = rw (ej, ev, ex, ed)
 
-pub node-later : (s : Sheet) (c d j v x : ℕ) → (j ≡ 0 → ⊥) → d ≡ c → x ≡ getD (s .arguments) (arity-max * d + (j - 1)) 0 → v ≡ x % 256 → v ≡ nodeByte s c j
+pub node-later : (s : Sheet) (c d j v x : ℕ) → (j ≡ 0 → ⊥) → d ≡ c → x ≡ getD (s .arguments) (arity-max * d + (j - 1)) 0 → v ≡ x % byte-size → v ≡ nodeByte s c j
 unfolding nodeByte
 node-later s c d ℕ.zero v x h ed ex ev = absurd (h refl)
 node-later s c d (ℕ.suc k) v x h ed ex ev = let z : suc k - 1 ≡ k = omega arith in ev ∙ (rw (ex, ed, z))
@@ -34,7 +34,7 @@ pub filled-end : (l : List ℕ) (size : ℕ) (f : ℕ → ℕ) (i n : ℕ) → F
 filled-end l size f i n g h = record { long = g .long; each = λ k q. g .each k (omega (arith, q)) }
 
 pub side-more : (codes l : List ℕ) (i n v : ℕ) → Filled l (2 * rule-equations-max) (sideBytes codes) i → i < n → n ≤ 2 * rule-equations-max
-    → v ≡ getD codes i 0 % 256 → Filled (set l i v) (2 * rule-equations-max) (sideBytes codes) (i + 1)
+    → v ≡ getD codes i 0 % byte-size → Filled (set l i v) (2 * rule-equations-max) (sideBytes codes) (i + 1)
 unfolding sideBytes
 side-more codes l i n v g h q e = filled-more l (2 * rule-equations-max) _ i v g (omega arith) e
 
@@ -46,11 +46,11 @@ node-more s l p n v g h q e = filled-more l (node-size * rule-cells-max) _ p v g
 pub node-there : (p n : ℕ) → p < n → n ≤ node-size * rule-cells-max → (p / node-size < net-cells-max) × (p % node-size < node-size)
 node-there p n h q = (omega (arith, div-add-mod p node-size), mod-lt p (omega arith))
 
-small : (v x : ℕ) → v ≡ x % 256 → x < 256 → v ≡ x
+small : (v x : ℕ) → v ≡ x % byte-size → x < byte-size → v ≡ x
 small v x e h = e ∙ mod-eq-of-lt h
 
 pub rule-made : (s : Sheet) (codes : List ℕ) (l r n m k a b e c f : ℕ) (xs ys : List ℕ) → Makeable l r n codes s → m ≡ s .cells → k ≡ s .names
-    → a ≡ l % 256 → b ≡ r % 256 → e ≡ n / 2 % 256 → c ≡ m % 256 → f ≡ (k - new-from) % 256
+    → a ≡ l % byte-size → b ≡ r % byte-size → e ≡ n / 2 % byte-size → c ≡ m % byte-size → f ≡ (k - new-from) % byte-size
     → Filled xs (2 * rule-equations-max) (sideBytes codes) n → Filled ys (node-size * rule-cells-max) (nodeBytes s) (node-size * m)
     → Made (record { left = a; right = b; equations = e; cells = c; names = f; sides = xs; nodes = ys }) l r n codes s
 rule-made s codes l r n m k a b e c f xs ys g em ek ea eb ee ec ef hx hy = record {

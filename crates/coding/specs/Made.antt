@@ -8,10 +8,14 @@ use Rattle.texts.specs.Coded.{new-from}
 use Rattle.table.specs.declared.Rule.{Rule}
 use Rattle.terms.specs.Sheet.{Sheet}
 
+-- How many numbers a byte holds.
+abbrev pub byte-size : ℕ
+byte-size = 256
+
 -- Byte j of cell c.
 unfoldable pub nodeByte : Sheet → ℕ → ℕ → ℕ
-nodeByte s c zero = getD (s .symbols) c 0 % 256
-nodeByte s c (suc k) = getD (s .arguments) (arity-max * c + k) 0 % 256
+nodeByte s c zero = getD (s .symbols) c 0 % byte-size
+nodeByte s c (suc k) = getD (s .arguments) (arity-max * c + k) 0 % byte-size
 
 -- An array of a known length, the first n bytes of which are those of f.
 pub record Filled (l : List ℕ) (size : ℕ) (f : ℕ → ℕ) (n : ℕ) : Type 0 where
@@ -20,7 +24,7 @@ pub record Filled (l : List ℕ) (size : ℕ) (f : ℕ → ℕ) (n : ℕ) : Type
 
 -- The bytes of the sides, and of the cells.
 unfoldable pub sideBytes : List ℕ → ℕ → ℕ
-sideBytes codes i = getD codes i 0 % 256
+sideBytes codes i = getD codes i 0 % byte-size
 
 unfoldable pub nodeBytes : Sheet → ℕ → ℕ
 nodeBytes s p = nodeByte s (p / node-size) (p % node-size)

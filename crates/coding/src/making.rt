@@ -13,19 +13,16 @@ ghost use Prim.Native.Nat.{_*_, _/_, _%_, _-_, _<_, _≤_};
 ghost use lib.ListN.{length};
 ghost use Rattle.parts.specs.Limits.{rule-equations-max, rule-cells-max, node-size, net-cells-max};
 ghost use Rattle.terms.specs.Sheet.{view};
-ghost use Rattle.coding.specs.Made.{nodeByte, Filled, sideBytes, nodeBytes, Makeable, Made};
+ghost use Rattle.coding.specs.Made.{byte-size, nodeByte, Filled, sideBytes, nodeBytes, Makeable, Made};
+
+// How many numbers a byte holds.
+const BYTE: u16 = 256;
 
 // The low byte.
 fn low(x: u16) -> u8
-    ensures { λ r. ⌜ r ≡ x % 256 ⌝ }
+    ensures { λ r. ⌜ r ≡ x % byte-size ⌝ }
 {
-    (x % 256) as u8
-}
-
-fn low_of(n: usize) -> u8
-    ensures { λ r. ⌜ r ≡ n % 256 ⌝ }
-{
-    (n % 256) as u8
+    (x % BYTE) as u8
 }
 
 fn cell_no(c: usize) -> CellNo
@@ -91,7 +88,7 @@ pub fn rule_of(
     Rule {
         left: low(left.0),
         right: low(right.0),
-        equations: low_of(n / 2),
+        equations: low((n / 2) as u16),
         cells: low(m),
         names: low(fresh),
         sides: sides_of(codes, n),

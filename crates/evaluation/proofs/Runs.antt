@@ -5,9 +5,9 @@ use mathlib.Core.List.{List}
 use native.Mathlib.Decide.{decLt}
 use native.Mathlib.Omega.{arith}
 use Rattle.parts.specs.Limits.{budget-max}
-use Rattle.model.specs.Agree.{Stopped, Because}
+use Rattle.model.specs.Walk.{Stopped, Because, Stop, ended, paused, noroom, Ran}
 use Rattle.model.specs.Kept.{walk-sound}
-use Rattle.model.specs.Run.{Stop, ended, paused, noroom, Ran, ran}
+use Rattle.model.specs.Run.{ran}
 use Rattle.model.specs.Sound.{Sound}
 use Rattle.model.specs.Stopped.{run-is-right}
 use Rattle.table.specs.Layout.{agentsIn}

@@ -20,7 +20,7 @@ use Rattle.texts.specs.Proofs.Tools.{same-refl}
 use Rattle.texts.specs.RuleText.{readRules}
 use Rattle.table.specs.Layout.{agentsIn, bytesOf, tableBytes}
 use Rattle.table.specs.Layout as Table
-use Rattle.table.specs.Testing.{Given}
+use Rattle.table.specs.Given.{Given}
 use Rattle.state.specs.Layout.{view}
 use Rattle.sound.specs.Lent.{under}
 use Rattle.lent.specs.Both.{BothSound, stands-for, under-is, given-tested, given-usable}

@@ -5,7 +5,8 @@ use mathlib.Core.List.{List, _++_}
 use lib.Dec.{leb}
 use lib.ListN.{length}
 use Rattle.model.specs.Load.{loaded}
-use Rattle.model.specs.Run.{Stop, ended, paused, noroom, Ran, ran}
+use Rattle.model.specs.Run.{ran}
+use Rattle.model.specs.Walk.{Stop, ended, paused, noroom, Ran}
 use Rattle.model.specs.State.{St}
 use Rattle.model.specs.Table.{Table}
 use Rattle.texts.specs.Answers.{OfText, accepted, refused}

@@ -1,6 +1,6 @@
 // The run of a loaded net, and what is printed of it.
 use crate::sizes::Output;
-use answer::Given;
+use answer::EndAnswer;
 use answer::read_answer;
 use machine::calls::RunAnswer;
 use machine::calls::run;
@@ -12,13 +12,16 @@ use report::firsts::put_stopped;
 use state::loops;
 use terms::words::part;
 ghost use mathlib.Core.Path.{_≡_};
-ghost use lib.ListN.{length};
+ghost use mathlib.Core.List.{_++_};
+ghost use Prim.Native.Nat.{_≤_};
+ghost use lib.ListN.{length, take};
 ghost use Rattle.model.specs.Run.{ran};
 ghost use Rattle.answers.specs.Printer.{state-answer};
 ghost use Rattle.table.specs.Layout.{agentsIn};
 ghost use Rattle.state.specs.Layout.{view};
 ghost use Rattle.sound.specs.Lent.{under};
 ghost use Rattle.lent.specs.Both.{BothSound};
+ghost use Rattle.report.specs.Firsts.{ended};
 ghost use Rattle.evaluation.specs.Evaluated.{budget, output-max, ending, running};
 ghost use Rattle.evaluation.specs.Printed.{Printed, Endable};
 
@@ -26,6 +29,29 @@ fn no_lines() -> [u8; Output::LINES]
     ensures { λ r. ⌜ length r ≡ output-max ⌝ }
 {
     [0u8; Output::LINES]
+}
+
+// What is printed of an answer that was read: the first line, and the lines after it, which take so many bytes.
+fn print_read(
+    out: &mut [u8],
+    lines: &[u8],
+    size: usize,
+    made: u32,
+    loops: u32,
+    stuck: u16,
+    knot: u16,
+) -> usize
+    requires { ⌜ length (now lines) ≤ output-max ⌝ }
+    ensures { λ r. ⌜ Printed (ended made loops stuck knot ++ take size (now (lines .entry))) (now (out .entry)) r (now (out .exit)) ⌝ }
+{
+    let at = put_ended(
+        out,
+        made as usize,
+        loops as usize,
+        stuck as usize,
+        knot as usize,
+    );
+    put_bytes(out, at, part(lines, 0, size))
 }
 
 // What is printed of a state in which nothing waits, after so many interactions. The refusals for an unsound state and for equations that wait
@@ -42,24 +68,15 @@ fn print_end(
 {
     let mut lines = no_lines();
     match read_answer(table, state, &mut lines) {
-        Given::Read {
+        EndAnswer::Read {
             length,
             loops,
             stuck,
             knot,
-        } => {
-            let at = put_ended(
-                out,
-                made as usize,
-                loops as usize,
-                stuck as usize,
-                knot as usize,
-            );
-            put_bytes(out, at, part(&lines, 0, length))
-        }
-        Given::Long => put_refusal(out, b"answer", 15, 0),
-        Given::Unsound => 0,
-        Given::Waits => 0,
+        } => print_read(out, &lines, length, made, loops, stuck, knot),
+        EndAnswer::Long => put_refusal(out, b"answer", 15, 0),
+        EndAnswer::Unsound => 0,
+        EndAnswer::Waits => 0,
     }
 }
 

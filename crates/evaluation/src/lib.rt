@@ -15,13 +15,13 @@ ghost use lib.ListN.{length};
 ghost use lib.Seq.{sets};
 ghost use Rattle.texts.specs.NetText.{readNet};
 ghost use Rattle.table.specs.Layout.{agentsIn};
-ghost use Rattle.table.specs.Testing.{Given};
+ghost use Rattle.table.specs.Given.{Given};
 ghost use Rattle.sound.specs.Lent.{under};
 ghost use Rattle.evaluation.specs.Evaluated.{output-size, net-printed, evaluated};
 ghost use Rattle.evaluation.specs.Printed.{Printed};
 
 pub mod sizes; // sizes.rt: the budget and the size of the output
-pub mod ending; // ending.rt: the run of a loaded net, and what is printed of it
+mod ending; // ending.rt: the run of a loaded net, and what is printed of it
 
 // What is printed of a net text, over the table of a rule text that was accepted.
 fn print_net(table: &[u8; Limits::TABLE], net: &[u8], out: &mut [u8]) -> usize

@@ -4,9 +4,7 @@ ghost use mathlib.Core.Path.{_≡_};
 ghost use Rattle.evaluation.specs.Evaluated.{budget, output-max, output-size};
 
 // "with budget 100,000 and a 65,536 byte output": LINES takes the lines after the first, SIZE all that is printed.
-pub struct Output {
-    pub unused: bool,
-}
+pub struct Output;
 
 impl Output {
     pub const BUDGET: u32 = 100000;

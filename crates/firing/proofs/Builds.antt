@@ -6,7 +6,8 @@ use native.Mathlib.Omega.{arith}
 use lib.ListN.{length, set, length-map}
 use lib.Seq.{sets}
 use Rattle.parts.specs.Limits.{arity-max, waiting-max, rule-cells-max, cells-max}
-use Rattle.parts.specs.Sides.{Side, name, cell, _:=_, code, side, code-side}
+use Rattle.parts.specs.Sides.{Side, name, cell, _:=_, code, side}
+use Rattle.parts.specs.Codes.{code-side}
 use Rattle.parts.specs.Typed.{pair, plain, typed, plain-typed, number}
 use Rattle.parts.specs.Typed as Typed
 use Rattle.parts.specs.declared.Equation.{Equation}
@@ -17,7 +18,7 @@ use Rattle.state.specs.Places.{stored, with-words}
 use Rattle.state.specs.Moves.{put-on, RoomOn}
 use Rattle.state.specs.declared.Part.the-variants.{Arguments}
 use Rattle.state.specs.declared.Pile.the-variants.{Waits}
-use Rattle.texts.specs.TableTest.{arityAt}
+use Rattle.texts.specs.Coded.{arityAt}
 use Rattle.table.specs.Layout.{ruleRow, symbolOf, agentsIn}
 use Rattle.table.specs.Lists.{tab}
 use Rattle.table.specs.Laws.Lists.{tab-snoc, length-tab}

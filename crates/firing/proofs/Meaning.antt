@@ -6,7 +6,8 @@ use native.Mathlib.Omega.{arith}
 use lib.ListN.{length, getD, set}
 use lib.Seq.{sets}
 use Rattle.parts.specs.Limits.{arity-max}
-use Rattle.parts.specs.Sides.{Side, name, cell, _:=_, code, side, code-side, side-code}
+use Rattle.parts.specs.Sides.{Side, name, cell, _:=_, code, side}
+use Rattle.parts.specs.Codes.{code-side, side-code}
 use Rattle.model.specs.State.{from}
 use Rattle.model.specs.Table.{Cell}
 use Rattle.model.specs.Step.{set-bare, write-symbols, write-arguments, inst, inst-cell, inst-pair}

@@ -216,7 +216,7 @@ module _ (w : List ℕ) (k : ℕ) (s₀ s : St) (F₀ F : List ℕ) (low : ℕ) 
 -- One number taken: y is the number found, and x is it as a word.
 module _ (s : St) (low y : ℕ) where
   module _ (t : Takeable Names 1 low s) (q : y ≡ free-from low (s .names)) where
-    pub name-short : y < 65536
+    pub name-short : Fits w16 y
     name-short = omega (arith, free-inside Names s low t)
 
     pub name-inside : (x : ℕ) → x ≡ y → x < names-max
@@ -229,7 +229,7 @@ module _ (s : St) (low y : ℕ) where
     name-past x e = omega (arith, free-inside Names s low t)
 
   module _ (t : Takeable Symbols 1 low s) (q : y ≡ free-from low (s .symbols)) where
-    pub cell-short : y < 65536
+    pub cell-short : Fits w16 y
     cell-short = omega (arith, free-inside Symbols s low t)
 
     pub cell-inside : (x : ℕ) → x ≡ y → x < cells-max

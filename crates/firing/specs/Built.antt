@@ -9,7 +9,7 @@ use Rattle.model.specs.State.{St, from}
 use Rattle.model.specs.Step.{puts}
 use Rattle.state.specs.Places.{with-words}
 use Rattle.state.specs.declared.Part.the-variants.{Arguments}
-use Rattle.texts.specs.TableTest.{arityAt}
+use Rattle.texts.specs.Coded.{arityAt}
 use Rattle.table.specs.Layout.{sides-in, nodes-in, ruleRow, symbolOf, agentsIn}
 use Rattle.table.specs.Lists.{tab}
 use Rattle.firing.specs.Frames.{names-at, worth, cell-in}

@@ -7,9 +7,7 @@ pub mod building; // building.rt: the arguments of the new cells, and the equati
 pub mod pairs; // pairs.rt: the interaction
 
 // Where each part of a frame begins: the arguments of the two cells stand first.
-pub struct Frame {
-    pub unused: bool,
-}
+pub struct Frame;
 
 impl Frame {
     pub const NAMES_AT: usize = 2 * Limits::ARITY;

@@ -11,6 +11,8 @@ use table::reading::wide;
 ghost use mathlib.Core.Path.{_≡_};
 ghost use Prim.Native.Nat.{_+_, _*_, _<_};
 ghost use lib.ListN.{set};
+ghost use mir.Syntax.{w16};
+ghost use mir.Val.{Fits};
 ghost use Rattle.parts.specs.Limits.{rule-names-max};
 ghost use Rattle.state.specs.Layout.{view};
 ghost use Rattle.state.specs.Places.{stored};
@@ -22,7 +24,7 @@ ghost use Rattle.firing.specs.Taken.{Takeable, Passed, taken-on, entered
 
 // A number as a word.
 fn short(n: usize) -> u16
-    requires { ⌜ n < 65536 ⌝ }
+    requires { ⌜ Fits w16 n ⌝ }
     ensures { λ r. ⌜ r ≡ n ⌝ }
 {
     n as u16

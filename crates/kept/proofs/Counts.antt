@@ -5,7 +5,7 @@ use Prim.Native.Nat.{ℕ, zero, suc, _+_, _<_, _≤_, min}
 use native.Mathlib.Omega.{arith}
 use lib.ListN.{length, getD}
 use Rattle.parts.specs.Limits.{cells-max, names-max}
-use Rattle.parts.specs.Segments.{seg-length}
+use Rattle.parts.specs.SegmentLaws.{seg-length}
 use Rattle.model.specs.State.{St, used}
 use Rattle.state.specs.Layout.{symbols-at, names-at, view}
 use Rattle.kept.specs.Right.{Right}

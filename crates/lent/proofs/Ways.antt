@@ -7,10 +7,10 @@ use Prim.Native.Nat.{ℕ}
 use native.Mathlib.Omega.{arith}
 use Rattle.model.specs.Test.{tested}
 use Rattle.model.specs.Tested.{tested-sound}
-use Rattle.table.specs.Testing.{Given}
+use Rattle.table.specs.Given.{Given}
 use Rattle.state.specs.Layout.{view}
 use Rattle.sound.specs.Lent.{under, Usable}
-use Rattle.lent.specs.Both.{BothSound, given-usable, given-sound, sound-state, both-of}
+use Rattle.lent.specs.Both.{BothSound, given-usable, given-sound, table-given, sound-state, both-of}
 
 module _ (w : List ℕ) (t : Bool) (e : (t ≡ true) ↔ Given w) where
   pub usable-table : t ≡ true → Usable w
@@ -24,4 +24,4 @@ module _ (w : List ℕ) (t : Bool) (e : (t ≡ true) ↔ Given w) where
 
   pub no-table : (v : List ℕ) → t ≡ false → (false ≡ true) ↔ BothSound w v
   no-table v h =
-      (λ k. absurd (let z : _≡_ {A = ℕ} 0 1 = cc in omega arith), λ k. sym h ∙ e .1 (k .book, k .good, k .given))
+      (λ k. absurd (let z : _≡_ {A = ℕ} 0 1 = cc in omega arith), λ k. sym h ∙ e .1 (table-given k))

@@ -1,6 +1,6 @@
 -- One law for each way out of the functions that enter names, and what the loop over the words of a part keeps.
 use Prim.Native.Nat.{ℕ, _-_, _≤_, _<_}
-use mathlib.Core.Path.{_≡_, sym, ap, subst, _∙_}
+use mathlib.Core.Path.{_≡_, sym, ap, _∙_}
 use mathlib.Core.Bool.{Bool, true, false, not, _&&_}
 use mathlib.Core.List.{List, [], _∷_}
 use native.Mathlib.Omega.{arith}
@@ -12,7 +12,7 @@ use mir.Val.{Fits}
 use borrow.Author.Tests.{lt-ltb, le-ltb, ltb-true, ltb-false, leb-true, le-leb, lt-leb, not-true, not-false}
 use Rattle.parts.specs.Limits.{text-max, identifier-max, net-names-max}
 use Rattle.model.specs.Table.{Cell}
-use Rattle.texts.specs.Bytes.{Word, any, among, indexOf}
+use Rattle.texts.specs.Bytes.{Word, any, indexOf}
 use Rattle.texts.specs.Books.{Agent, declared}
 use Rattle.texts.specs.RuleText.{tooLong}
 use Rattle.texts.specs.Proofs.Tools.{both, neither, never}
@@ -23,7 +23,7 @@ use Rattle.terms.specs.Words.{entries}
 use Rattle.terms.specs.Reader.{Done, done}
 use Rattle.terms.specs.Meaning.{Holds, grown}
 use Rattle.terms.specs.Proofs.Numbers.{grown-longer}
-use Rattle.lines.specs.Names.{between, left, kept, roomFor, newAfter, newBy, wordBy, Ready, Within, Entered}
+use Rattle.lines.specs.Names.{between, kept, roomFor, newAfter, newBy, wordBy, Ready, Within, Entered}
 use Rattle.lines.specs.Laws.Names.{Taken, After, grown-done, word-after}
 use Rattle.lines.specs.Laws.Parts.{drop-take}
 use Rattle.lines.specs.Laws.Words.{words-none}
@@ -86,45 +86,40 @@ module _ (text : List ℕ) (limit at end n : ℕ) (s : Sheet) (count : n ≡ s .
       new-new f s₁ p = rw (by-count, le-ltb limit n within, ← w, ← at-k, le-ltb k n new, ← fit, f, p)
 
 -- a word
-module _ (text : List ℕ) (ags : List Agent) (skip : List Word) (limit at end : ℕ) (s : Sheet) (word : Word)
+module _ (text : List ℕ) (ags : List Agent) (limit at end : ℕ) (s : Sheet) (word : Word)
     (w : word ≡ take (end - at) (drop at text)) (t : Bool) (is : t ≡ declared ags word) where
-  pub word-agent : t ≡ true → done true s ≡ wordBy text ags skip limit at end s
-  unfolding wordBy left
+  pub word-agent : t ≡ true → done true s ≡ wordBy text ags limit at end s
+  unfolding wordBy
   word-agent h = rw (← w, ← is, h)
 
-  module _ (free : t ≡ false) (u : Bool) (stands : u ≡ among word skip) where
-    pub word-passed : u ≡ true → done true s ≡ wordBy text ags skip limit at end s
-    unfolding wordBy left
-    word-passed h = rw (← w, ← is, free, ← stands, h)
-
-    pub word-kept : u ≡ false → {d : Done Bool} → d ≡ newBy text limit at end s → d ≡ wordBy text ags skip limit at end s
-    unfolding wordBy left
-    word-kept h q = q ∙ rw (← w, ← is, free, ← stands, h)
+  pub word-name : t ≡ false → {d : Done Bool} → d ≡ newBy text limit at end s → d ≡ wordBy text ags limit at end s
+  unfolding wordBy
+  word-name h q = q ∙ rw (← w, ← is, h)
 
 -- The words before a place are entered: from the names on the sheet grow those that the whole part brings.
-pub record Standing (text : List ℕ) (ags : List Agent) (skip : List Word) (limit : ℕ) (part rest : List ℕ) (s : Sheet)
+pub record Standing (text : List ℕ) (ags : List Agent) (limit : ℕ) (part rest : List ℕ) (s : Sheet)
     (cs : List Cell) (ws : List Word) : Type 0 where
   pub names : List Word
   pub holds : Holds text s cs names
   pub few : length names ≤ limit
   pub short : length text ≤ text-max
   pub small : any tooLong (wordsIn rest) ≡ false
-  pub grows : grown ws (kept ags skip (wordsIn part)) ≡ grown names (kept ags skip (wordsIn rest))
+  pub grows : grown ws (kept ags (wordsIn part)) ≡ grown names (kept ags (wordsIn rest))
 
 -- The words of the text before `to` are taken from `from` on; those before `at` are done.
-pub record Entering (text : List ℕ) (ags : List Agent) (skip : List Word) (limit from to : ℕ) (words : List ℕ)
+pub record Entering (text : List ℕ) (ags : List Agent) (limit from to : ℕ) (words : List ℕ)
     (s₀ s : Sheet) (at : ℕ) : Type 0 where
   pub is : words ≡ take to text
   pub on : (cs : List Cell) (ws : List Word) → Ready text (between text from to) s₀ cs ws
-      → Standing text ags skip limit (between text from to) (drop at words) s cs ws
+      → Standing text ags limit (between text from to) (drop at words) s cs ws
 
-module _ (text : List ℕ) (ags : List Agent) (skip : List Word) (limit from to : ℕ) where
+module _ (text : List ℕ) (ags : List Agent) (limit from to : ℕ) where
   -- too many names before the first word
   pub entering-full : (n : ℕ) (s : Sheet) → n ≡ s .names → limit < n
-      → Entered text ags skip limit (between text from to) false s s
+      → Entered text ags limit (between text from to) false s s
   entering-full n s e h = record {
     means = λ cs ws r.
-        let us = kept ags skip (wordsIn (between text from to)) in
+        let us = kept ags (wordsIn (between text from to)) in
         let c : n ≡ length ws = e ∙ r .holds .names .count in
         record {
           told = sym (lt-leb (length (grown ws us)) limit (omega (arith, grown-longer ws us)));
@@ -133,7 +128,7 @@ module _ (text : List ℕ) (ags : List Agent) (skip : List Word) (limit from to 
   }
 
   pub entering-none : (words : List ℕ) (n : ℕ) (s : Sheet) → words ≡ take to (drop 0 text) → n ≡ s .names → n ≤ limit
-      → Entering text ags skip limit from to words s s from
+      → Entering text ags limit from to words s s from
   entering-none words n s p e h =
       let z : drop from words ≡ between text from to = ap (drop from) p ∙ drop-take from to text in
       record {
@@ -148,22 +143,22 @@ module _ (text : List ℕ) (ags : List Agent) (skip : List Word) (limit from to 
         };
       }
 
-  module _ (words : List ℕ) (s₀ s : Sheet) (at : ℕ) (g : Entering text ags skip limit from to words s₀ s at) where
+  module _ (words : List ℕ) (s₀ s : Sheet) (at : ℕ) (g : Entering text ags limit from to words s₀ s at) where
     -- no word is left
-    at-end : wordsIn (drop at words) ≡ [] → Entered text ags skip limit (between text from to) true s₀ s
+    at-end : wordsIn (drop at words) ≡ [] → Entered text ags limit (between text from to) true s₀ s
     at-end z = record {
       means = λ cs ws r.
           let d = g .on cs ws r in
-          let q : grown ws (kept ags skip (wordsIn (between text from to))) ≡ d .names =
-          d .grows ∙ rw z (grown-done ags skip (d .names)) in
+          let q : grown ws (kept ags (wordsIn (between text from to))) ≡ d .names =
+          d .grows ∙ rw z (grown-done ags (d .names)) in
           record { told = rw q (sym (le-leb (length (d .names)) limit (d .few))); holds = λ t. rw q (d .holds) };
     }
 
-    pub entering-end : length words ≤ at → Entered text ags skip limit (between text from to) true s₀ s
+    pub entering-end : length words ≤ at → Entered text ags limit (between text from to) true s₀ s
     entering-end h = at-end (ap wordsIn (drop-of-length-le words h) ∙ words-none)
 
     module _ (b : ℕ) (eb : b ≡ wordStart words at) where
-      pub entering-last : at < length words → length words ≤ b → Entered text ags skip limit (between text from to) true s₀ s
+      pub entering-last : at < length words → length words ≤ b → Entered text ags limit (between text from to) true s₀ s
       entering-last i h = at-end (no-word words at (omega arith) (rw eb at h))
 
       -- the next word
@@ -184,7 +179,7 @@ module _ (text : List ℕ) (ags : List Agent) (skip : List Word) (limit from to 
         long-is = length-take-le (e - b) (drop b words) (omega (arith, n .within, length-drop b words))
 
         module _ (few : limit ≤ net-names-max) (cs : List Cell) (ws : List Word) (r : Ready text (between text from to) s₀ cs ws) where
-          abbrev d : Standing text ags skip limit (between text from to) (drop at words) s cs ws
+          abbrev d : Standing text ags limit (between text from to) (drop at words) s cs ws
           d = g .on cs ws r
 
           small-both : (tooLong (take (e - b) (drop b words)) ≡ false) × (any tooLong (wordsIn (drop e words)) ≡ false)
@@ -196,20 +191,20 @@ module _ (text : List ℕ) (ags : List Agent) (skip : List Word) (limit from to 
           unfolding tooLong
           short = omega (arith, ltb-false identifier-max (length (take (e - b) (drop b words))) (small-both .0), long-is)
 
-          after : After text ags skip limit cs (d .names) (between text b e) (wordBy text ags skip limit b e s)
+          after : After text ags limit cs (d .names) (between text b e) (wordBy text ags limit b e s)
           after =
-              word-after text ags skip limit few s cs (d .names) (d .holds) (d .few) b e (omega (arith, d .short, room, more)) short
+              word-after text ags limit few s cs (d .names) (d .holds) (d .few) b e (omega (arith, d .short, room, more)) short
 
-          grows : grown ws (kept ags skip (wordsIn (between text from to)))
-              ≡ grown (d .names) (kept ags skip (between text b e ∷ wordsIn (drop e words)))
-          grows = d .grows ∙ ap (λ (us : List Word). grown (d .names) (kept ags skip us)) (n .words ∙ rw word-is)
+          grows : grown ws (kept ags (wordsIn (between text from to)))
+              ≡ grown (d .names) (kept ags (between text b e ∷ wordsIn (drop e words)))
+          grows = d .grows ∙ ap (λ (us : List Word). grown (d .names) (kept ags us)) (n .words ∙ rw word-is)
 
           module _ {s₁ : Sheet} where
-            stands : done true s₁ ≡ wordBy text ags skip limit b e s
-                → Standing text ags skip limit (between text from to) (drop e words) s₁ cs ws
+            stands : done true s₁ ≡ wordBy text ags limit b e s
+                → Standing text ags limit (between text from to) (drop e words) s₁ cs ws
             unfolding After
             stands q =
-                let t : Taken text ags skip limit cs (d .names) (between text b e) s₁ = rw (← q) at after in
+                let t : Taken text ags limit cs (d .names) (between text b e) s₁ = rw (← q) at after in
                 record {
                   names = t .names;
                   holds = t .holds;
@@ -219,26 +214,20 @@ module _ (text : List ℕ) (ags : List Agent) (skip : List Word) (limit from to 
                   grows = grows ∙ t .grows (wordsIn (drop e words));
                 }
 
-            passes : done false s₁ ≡ wordBy text ags skip limit b e s
-                → Within text limit false s₁ cs (grown ws (kept ags skip (wordsIn (between text from to))))
+            passes : done false s₁ ≡ wordBy text ags limit b e s
+                → Within text limit false s₁ cs (grown ws (kept ags (wordsIn (between text from to))))
             unfolding After
             passes q =
-                let t : (us : List Word) → limit < length (grown (d .names) (kept ags skip (between text b e ∷ us))) =
+                let t : (us : List Word) → limit < length (grown (d .names) (kept ags (between text b e ∷ us))) =
                 rw (← q) at after in
                 record {
                   told = rw grows (sym (lt-leb _ limit (t (wordsIn (drop e words)))));
                   holds = λ f. absurd (never f);
                 }
 
-        module _ (few : limit ≤ net-names-max) (t : Bool) (s₁ : Sheet) (q : done t s₁ ≡ wordBy text ags skip limit b e s) where
-          pub entering-more : not t ≡ false → Entering text ags skip limit from to words s₀ s₁ e
+        module _ (few : limit ≤ net-names-max) (t : Bool) (s₁ : Sheet) (q : done t s₁ ≡ wordBy text ags limit b e s) where
+          pub entering-more : not t ≡ false → Entering text ags limit from to words s₀ s₁ e
           entering-more h = record { is = g .is; on = λ cs ws r. stands few cs ws r (rw (not-false t h) at q) }
 
-          pub entering-stop : not t ≡ true → Entered text ags skip limit (between text from to) false s₀ s₁
+          pub entering-stop : not t ≡ true → Entered text ags limit (between text from to) false s₀ s₁
           entering-stop h = record { means = λ cs ws r. passes few cs ws r (rw (not-true t h) at q) }
-
--- the part that is passed over
-pub entered-over : (text : List ℕ) (ags : List Agent) (limit from to : ℕ) (part skip : List ℕ) (r : Bool) (s s₁ : Sheet)
-    → skip ≡ between text from to → Entered text ags (wordsIn skip) limit part r s s₁
-    → Entered text ags (wordsIn (between text from to)) limit part r s s₁
-entered-over text ags limit from to part skip r s s₁ p e = subst (λ l. Entered text ags (wordsIn l) limit part r s s₁) p e

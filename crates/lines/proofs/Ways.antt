@@ -19,12 +19,12 @@ use Rattle.scan.specs.Cutting.{fieldStart}
 use Rattle.scan.specs.Numbers.{valueOf}
 use Rattle.scan.specs.declared.numbers.Number.{Number}
 use Rattle.scan.specs.declared.numbers.Number.the-variants.{Value, Nothing}
-use Rattle.scan.specs.Spelled.{misspeltAt, wrongAt}
-use Rattle.scan.specs.declared.spelling.Spelling.{Spelling}
-use Rattle.scan.specs.declared.spelling.Spelling.the-variants.{Right, Wrong}
-use Rattle.scan.specs.Sized.{bigAt}
-use Rattle.scan.specs.Laws.Spelling.{right-spelled, wrong-spelled}
-use Rattle.scan.specs.Laws.Sizing.{big-exact}
+use Rattle.field_tests.specs.Spelled.{misspeltAt, wrongAt}
+use Rattle.field_tests.specs.declared.spelling.Spelling.{Spelling}
+use Rattle.field_tests.specs.declared.spelling.Spelling.the-variants.{Right, Wrong}
+use Rattle.field_tests.specs.Sized.{bigAt}
+use Rattle.field_tests.specs.Laws.Spelling.{right-spelled, wrong-spelled}
+use Rattle.field_tests.specs.Laws.Sizing.{big-exact}
 use Rattle.terms.specs.Words.{found}
 use Rattle.terms.specs.Proofs.Numbers.{found-agent, found-none}
 use Rattle.terms.specs.declared.words.Found.{Found}

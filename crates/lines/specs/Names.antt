@@ -1,13 +1,13 @@
 -- The new names of a part of a text: which words they are, how one is entered on a sheet, what entering all means.
 use Prim.Native.Nat.{ℕ, _-_, _≤_}
 use mathlib.Core.Path.{_≡_}
-use mathlib.Core.Bool.{Bool, true, false, cond, not, _&&_, _||_}
+use mathlib.Core.Bool.{Bool, true, false, cond, not, _&&_}
 use mathlib.Core.List.{List}
 use lib.Dec.{ltb, leb}
 use lib.ListN.{length, take, drop}
 use Rattle.parts.specs.Limits.{text-max, identifier-max}
 use Rattle.model.specs.Table.{Cell}
-use Rattle.texts.specs.Bytes.{Word, any, keep, among, indexOf}
+use Rattle.texts.specs.Bytes.{Word, any, keep, indexOf}
 use Rattle.texts.specs.Books.{Agent, declared}
 use Rattle.texts.specs.RuleText.{tooLong}
 use Rattle.scan.specs.Words.{wordsIn}
@@ -20,13 +20,9 @@ use Rattle.terms.specs.Meaning.{Holds, grown}
 abbrev pub between : List ℕ → ℕ → ℕ → List ℕ
 between text from to = take (to - from) (drop from text)
 
--- an agent's, or one of the words passed over
-unfoldable pub left : List Agent → List Word → Word → Bool
-left ags skip w = declared ags w || among w skip
-
--- the others, in order
-unfoldable pub kept : List Agent → List Word → List Word → List Word
-kept ags skip ws = keep (λ w. not (left ags skip w)) ws
+-- the names among some words: those that are no agent's, in order
+unfoldable pub kept : List Agent → List Word → List Word
+kept ags ws = keep (λ w. not (declared ags w)) ws
 
 -- there is room after n names, and the place and the length are in bounds
 unfoldable pub roomFor : ℕ → ℕ → ℕ → ℕ → Bool
@@ -42,10 +38,9 @@ newAfter text limit at end n s =
 unfoldable pub newBy : List ℕ → ℕ → ℕ → ℕ → Sheet → Done Bool
 newBy text limit at end s = newAfter text limit at end (s .names) s
 
--- the word that stands there
-unfoldable pub wordBy : List ℕ → List Agent → List Word → ℕ → ℕ → ℕ → Sheet → Done Bool
-wordBy text ags skip limit at end s =
-    cond (left ags skip (between text at end)) (done true s) (newBy text limit at end s)
+-- the word that stands there: an agent's is left out
+unfoldable pub wordBy : List ℕ → List Agent → ℕ → ℕ → ℕ → Sheet → Done Bool
+wordBy text ags limit at end s = cond (declared ags (between text at end)) (done true s) (newBy text limit at end s)
 
 -- A sheet that holds some cells and names, and a part of the text with no identifier that is too long.
 pub record Ready (text part : List ℕ) (s : Sheet) (cs : List Cell) (ws : List Word) : Type 0 where
@@ -60,7 +55,6 @@ pub record Within (text : List ℕ) (limit : ℕ) (r : Bool) (s : Sheet) (cs : L
 
 -- The names of a part entered: behind those of the sheet, by first occurrence.
 pub record Entered
-    (text : List ℕ) (ags : List Agent) (skip : List Word) (limit : ℕ) (part : List ℕ) (r : Bool)
-    (s s₁ : Sheet) : Type 0 where
+    (text : List ℕ) (ags : List Agent) (limit : ℕ) (part : List ℕ) (r : Bool) (s s₁ : Sheet) : Type 0 where
   pub means : (cs : List Cell) (ws : List Word) → Ready text part s cs ws
-      → Within text limit r s₁ cs (grown ws (kept ags skip (wordsIn part)))
+      → Within text limit r s₁ cs (grown ws (kept ags (wordsIn part)))

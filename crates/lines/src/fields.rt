@@ -1,14 +1,14 @@
 // Whole fields of a line: a header's counts, and numbers 4 and 5 on the fields from some number on.
 use crate::Header;
+use field_tests::sizes::first_big;
+use field_tests::spelling::Spelling;
+use field_tests::spelling::spelled;
 use scan::cutting::field;
 use scan::cutting::field_at;
 use scan::cutting::field_count;
 use scan::cutting::field_start;
 use scan::numbers::Number;
 use scan::numbers::decimal;
-use scan::sizes::first_big;
-use scan::spelling::Spelling;
-use scan::spelling::spelled;
 use scan::words::same;
 use terms::words::part;
 ghost use mathlib.Core.Path.{_≡_};

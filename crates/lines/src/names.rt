@@ -1,6 +1,5 @@
 // The new names of a part of a text, entered on a sheet by first occurrence.
 use crate::words::declared;
-use crate::words::stands_in;
 use parts::Limits;
 use parts::NameNo;
 use scan::words::word_end;
@@ -12,7 +11,6 @@ use terms::words::part;
 ghost use mathlib.Core.Path.{_≡_};
 ghost use Prim.Native.Nat.{_≤_};
 ghost use Rattle.parts.specs.Limits.{net-names-max};
-ghost use Rattle.scan.specs.Words.{wordsIn};
 ghost use Rattle.terms.specs.Agents.{agentsOf};
 ghost use Rattle.terms.specs.Reader.{done};
 ghost use Rattle.terms.specs.Sheet.{view};
@@ -52,41 +50,37 @@ fn enter_new(text: &[u8], at: usize, end: usize, limit: u16, sheet: &mut [u16; S
     false
 }
 
-// The word that stands from `at` to `end`: an agent's, and one of the words passed over, is left out.
+// The word that stands from `at` to `end`: an agent's is left out, another is a name.
 fn enter_word(
     text: &[u8],
     at: usize,
     end: usize,
-    skip: &[u8],
     agents: &[u8],
     limit: u16,
     sheet: &mut [u16; Sheet::SIZE],
 ) -> bool
     requires { ⌜ (at ≤ end) × (limit ≤ net-names-max) ⌝ }
-    ensures { λ r. ⌜ done r (view (now (sheet .exit))) ≡ wordBy (now (text .entry)) (agentsOf (now (agents .entry))) (wordsIn (now (skip .entry))) limit at end (view (now (sheet .entry))) ⌝ }
+    ensures { λ r. ⌜ done r (view (now (sheet .exit))) ≡ wordBy (now (text .entry)) (agentsOf (now (agents .entry))) limit at end (view (now (sheet .entry))) ⌝ }
 {
     let word = part(text, at, end - at);
     if declared(word, agents) {
         return true;
     }
-    if stands_in(skip, word) {
-        return true;
-    }
     enter_new(text, at, end, limit, sheet)
 }
 
-// The words of a part, one after the other.
-fn enter_words(
+// Enters the names among the words of a text from `from` to `to`. True where the names on the sheet are then at most as
+// many as the limit.
+pub fn enter_names(
     text: &[u8],
     from: usize,
     to: usize,
-    skip: &[u8],
     agents: &[u8],
     limit: u16,
     sheet: &mut [u16; Sheet::SIZE],
 ) -> bool
     requires { ⌜ (from ≤ to) × (limit ≤ net-names-max) ⌝ }
-    ensures { λ r. ⌜ Entered (now (text .entry)) (agentsOf (now (agents .entry))) (wordsIn (now (skip .entry))) limit (between (now (text .entry)) from to) r (view (now (sheet .entry))) (view (now (sheet .exit))) ⌝ }
+    ensures { λ r. ⌜ Entered (now (text .entry)) (agentsOf (now (agents .entry))) limit (between (now (text .entry)) from to) r (view (now (sheet .entry))) (view (now (sheet .exit))) ⌝ }
 {
     if limit < sheet::names(sheet) {
         return false;
@@ -99,29 +93,10 @@ fn enter_words(
             return true;
         }
         let e = word_end(words, s);
-        if !enter_word(text, s, e, skip, agents, limit, sheet) {
+        if !enter_word(text, s, e, agents, limit, sheet) {
             return false;
         }
         at = e;
     }
     true
-}
-
-// Enters the names among the words of a text from `from` to `to` that do not stand from `skip` to `past`. True where the
-// names on the sheet are then at most as many as the limit.
-pub fn enter_names(
-    text: &[u8],
-    from: usize,
-    to: usize,
-    skip: usize,
-    past: usize,
-    agents: &[u8],
-    limit: u16,
-    sheet: &mut [u16; Sheet::SIZE],
-) -> bool
-    requires { ⌜ (from ≤ to) × (skip ≤ past) × (limit ≤ net-names-max) ⌝ }
-    ensures { λ r. ⌜ Entered (now (text .entry)) (agentsOf (now (agents .entry))) (wordsIn (between (now (text .entry)) skip past)) limit (between (now (text .entry)) from to) r (view (now (sheet .entry))) (view (now (sheet .exit))) ⌝ }
-{
-    let skipped = part(text, skip, past - skip);
-    enter_words(text, from, to, skipped, agents, limit, sheet)
 }

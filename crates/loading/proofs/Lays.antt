@@ -8,7 +8,8 @@ use lib.Seq.{sets, drop-cons, drop-length}
 use mir.Syntax.{w16}
 use mir.Val.{Fits}
 use Rattle.parts.specs.Limits.{arity-max, symbols-max, net-cells-max, net-names-max, net-equations-max, face-max, waiting-max}
-use Rattle.parts.specs.Sides.{Side, Pair, name, cell, _:=_, code, side, code-side}
+use Rattle.parts.specs.Sides.{Side, Pair, name, cell, _:=_, code, side}
+use Rattle.parts.specs.Codes.{code-side}
 use Rattle.parts.specs.Typed.{pair, plain, number, typed, plain-typed}
 use Rattle.parts.specs.declared.Equation.{Equation}
 use Rattle.parts.specs.declared.Side as Typed
@@ -17,7 +18,7 @@ use Rattle.model.specs.State.{St, st, stack, Stack, with-cells, with-names, wit
 use Rattle.model.specs.Step.{write-symbols, write-arguments, set-bare, puts}
 use Rattle.model.specs.Load.{Net, loaded}
 use Rattle.texts.specs.Books.{Agent}
-use Rattle.texts.specs.TableTest.{arityAt}
+use Rattle.texts.specs.Coded.{arityAt}
 use Rattle.table.specs.Layout.{agentsIn}
 use Rattle.table.specs.Lists.{tab}
 use Rattle.table.specs.Laws.Lists.{length-tab, tab-at}

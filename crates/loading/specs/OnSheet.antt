@@ -7,7 +7,7 @@ use Rattle.parts.specs.Sides.{Side, Pair, _:=_, side}
 use Rattle.model.specs.Table.{Cell}
 use Rattle.model.specs.Load.{Net}
 use Rattle.texts.specs.Books.{Agent}
-use Rattle.texts.specs.TableTest.{arityAt}
+use Rattle.texts.specs.Coded.{arityAt}
 use Rattle.table.specs.Layout.{agentsIn}
 use Rattle.table.specs.Lists.{tab}
 use Rattle.terms.specs.Sheet.{Sheet}

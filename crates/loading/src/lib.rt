@@ -26,7 +26,7 @@ ghost use Rattle.parts.specs.Sides.{side};
 ghost use Rattle.parts.specs.Typed.{number, typed};
 ghost use Rattle.model.specs.State.{empty};
 ghost use Rattle.model.specs.Load.{loaded};
-ghost use Rattle.texts.specs.TableTest.{arityAt};
+ghost use Rattle.texts.specs.Coded.{arityAt};
 ghost use Rattle.table.specs.Layout.{agentsIn};
 ghost use Rattle.table.specs.Lists.{tab};
 ghost use Rattle.terms.specs.Sheet as Sheets;
@@ -35,16 +35,14 @@ ghost use Rattle.loading.specs.OnSheet.{symbolOn, widthOn, cellOn, cells
 ghost use Rattle.loading.specs.Writing.{laid, cell-written, cells-from, Equated, faced, stacked};
 
 // The codes of a net's terms: first those of `face`, then two for each equation.
-pub struct Codes {
-    pub unused: bool,
-}
+pub struct Codes;
 
 impl Codes {
     pub const SIZE: usize = Limits::FACE + 2 * Limits::NET_EQUATIONS;
 }
 
 // The symbol of a cell of the sheet.
-pub fn symbol_on(sheet: &[u16; Sheet::SIZE], c: CellNo) -> SymbolNo
+fn symbol_on(sheet: &[u16; Sheet::SIZE], c: CellNo) -> SymbolNo
     requires { ⌜ c .0 < net-cells-max ⌝ }
     ensures { λ r. ⌜ (r .0 ≡ symbolOn (Sheets.view (now (sheet .entry))) (c .0)) × (r .0 < 65535) ⌝ }
 {
@@ -158,7 +156,7 @@ fn side_of(word: u16) -> Side
 }
 
 // Equation number k.
-pub fn equation_on(codes: &[u16; Codes::SIZE], f: usize, k: usize) -> Equation
+fn equation_on(codes: &[u16; Codes::SIZE], f: usize, k: usize) -> Equation
     requires { ⌜ (f ≤ face-max) × (k < net-equations-max) ⌝ }
     ensures { λ r. ⌜ Equated r (equationOn (now (codes .entry)) f k) ⌝ }
 {

@@ -18,10 +18,11 @@ use Rattle.model.specs.Proofs.Selves.{picked-out}
 use Rattle.model.specs.Proofs.Stepped.{Finds, FoundAt, finds}
 use Rattle.model.specs.Reading.{Reads, by-cell, ReadsAll, no-pairs, pairs, pool-of}
 use Rattle.model.specs.Rows.{Row, no-rule}
-use Rattle.model.specs.Run.{one-made}
+use Rattle.model.specs.Walk.{one-made}
 use Rattle.model.specs.Sound.{Sound, pool}
 use Rattle.model.specs.State.{St, equation, unpack, pulled, listed}
-use Rattle.model.specs.Step.{Answer, moved, fire-if, held, meet, picked, place, rule-of, stepped, symbol-of, taken-out}
+use Rattle.model.specs.Step.{Answer, moved, held, picked, place, rule-of, symbol-of, taken-out}
+use Rattle.model.specs.Stepped.{fire-if, meet, stepped}
 use Rattle.model.specs.StepTable.{step-table}
 use Rattle.model.specs.Table.{Cell, Entry, Table, Found, none, straight, turned, no-entry}
 use Rattle.state.specs.Moves.{out-of-waiting, put-on}

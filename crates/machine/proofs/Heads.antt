@@ -9,10 +9,13 @@ use lib.Dec.{ltb}
 use borrow.Author.Tests.{ltb-true, ltb-false}
 use Rattle.lent.specs.Both.{given-sound}
 use Rattle.model.specs.Kept.{step-sound}
-use Rattle.model.specs.Run.{Ran, one-made, ended, paused, noroom, stopped, run}
-use Rattle.model.specs.Sound.{SoundTable, Sound}
+use Rattle.model.specs.Run.{stopped, run}
+use Rattle.model.specs.Walk.{Ran, one-made, ended, paused, noroom}
+use Rattle.model.specs.Sound.{Sound}
+use Rattle.model.specs.SoundTable.{SoundTable}
 use Rattle.model.specs.State.{St}
-use Rattle.model.specs.Step.{Answer, moved, refused, rule-at, stepped}
+use Rattle.model.specs.Step.{Answer, moved, refused, rule-at}
+use Rattle.model.specs.Stepped.{stepped}
 use Rattle.model.specs.Table.{Table}
 use Rattle.sound.specs.Lent.{under}
 use Rattle.kept.specs.Right.{Right}

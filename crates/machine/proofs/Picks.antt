@@ -16,9 +16,10 @@ use Rattle.parts.specs.declared.Side.{Side}
 use Rattle.parts.specs.declared.Side.the-variants.{Name, Cell}
 use Rattle.lent.specs.Both.{given-sound}
 use Rattle.model.specs.Proofs.Tabled.{acts}
-use Rattle.model.specs.Run.{one-made}
+use Rattle.model.specs.Walk.{one-made}
 use Rattle.model.specs.State.{St, equation}
-use Rattle.model.specs.Step.{moved, act, meet, picked, place, rule-at, rule-for, rule-of, stepped, taken-out, wire}
+use Rattle.model.specs.Step.{moved, picked, place, rule-at, rule-for, rule-of, taken-out}
+use Rattle.model.specs.Stepped.{act, meet, stepped, wire}
 use Rattle.state.specs.Moves.{out-of-waiting}
 use Rattle.sound.specs.Lent.{under}
 use Rattle.kept.specs.Right.{Right}

@@ -12,8 +12,8 @@ use Rattle.parts.specs.Sides.{Side, name, cell, Pair, _:=_, side}
 use Rattle.model.specs.Table.{Cell, Entry, no-cell, no-entry}
 use Rattle.texts.specs.Books.{Agent}
 use Rattle.texts.specs.Bytes.{all, any}
-use Rattle.texts.specs.Coded.{Table, second-from, new-from}
-use Rattle.texts.specs.TableTest.{testAgents, testTable, testTemplates, testTemplate, pairTest, arityAt, cellOk, codeOk, unpaired, argsAll, allCodes}
+use Rattle.texts.specs.Coded.{Table, second-from, new-from, arityAt, unpaired}
+use Rattle.texts.specs.TableTest.{testAgents, testTable, testTemplates, testTemplate, pairTest, cellOk, codeOk, argsAll, allCodes}
 use Rattle.texts.specs.Proofs.Clauses.{Clauses, clauses-of}
 use Rattle.texts.specs.Proofs.Tools.{both, all-left, all-right}
 use Rattle.table.specs.Layout.{view, ruleRow, rulesIn, agentsIn, symbolOf, cellOf, equationOf, entryOf, entryAt}

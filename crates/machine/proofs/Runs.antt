@@ -7,7 +7,8 @@ use Prim.Native.Nat.{ℕ, suc, _-_, _<_, _≤_}
 use native.Mathlib.Decide.{decLt}
 use native.Mathlib.Omega.{arith}
 use Rattle.parts.specs.Limits.{budget-max}
-use Rattle.model.specs.Run.{ended, paused, noroom, stopped, run, ran}
+use Rattle.model.specs.Run.{stopped, run, ran}
+use Rattle.model.specs.Walk.{ended, paused, noroom}
 use Rattle.model.specs.State.{St}
 use Rattle.state.specs.Layout.{view}
 use Rattle.sound.specs.Lent.{under}

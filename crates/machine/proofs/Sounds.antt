@@ -8,7 +8,8 @@ use lib.Dec.{eqb}
 use lib.ListN.{getD}
 use borrow.Author.Tests.{eq-eqb, eqb-true}
 use Rattle.parts.specs.Limits.{cells-max, names-max, waiting-max, loops-max}
-use Rattle.parts.specs.Sides.{name, cell, Pair, _:=_, code, side, code-side}
+use Rattle.parts.specs.Sides.{name, cell, Pair, _:=_, code, side}
+use Rattle.parts.specs.Codes.{code-side}
 use Rattle.parts.specs.Sides as Plain
 use Rattle.parts.specs.Typed.{plain, pair, number}
 use Rattle.parts.specs.declared.Equation.{Equation}
@@ -19,9 +20,11 @@ use Rattle.parts.specs.declared.Side.the-variants.{Name, Cell}
 use Rattle.model.specs.Proofs.Ranges.{LiveSide, waiting-live, bond-live}
 use Rattle.model.specs.Proofs.Tabled.{acts}
 use Rattle.model.specs.Rows.{NoRoom, for-interaction, for-loop, for-joined-loop, Joined}
-use Rattle.model.specs.Sound.{SoundTable, Sound}
+use Rattle.model.specs.Sound.{Sound}
+use Rattle.model.specs.SoundTable.{SoundTable}
 use Rattle.model.specs.State.{St, equation, bound}
-use Rattle.model.specs.Step.{refused, act, picked, place, stepped, taken-out, wire}
+use Rattle.model.specs.Step.{refused, picked, place, taken-out}
+use Rattle.model.specs.Stepped.{act, stepped, wire}
 use Rattle.model.specs.Stopped.{refused-13}
 use Rattle.model.specs.Table.{Table}
 use Rattle.state.specs.Moves.{out-of-waiting, Pullable}

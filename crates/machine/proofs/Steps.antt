@@ -7,7 +7,7 @@ use Prim.Native.Nat.{ℕ, _<_, _≤_}
 use native.Mathlib.Omega.{arith}
 use Rattle.model.specs.Proofs.Runs.{past-answers}
 use Rattle.model.specs.State.{St}
-use Rattle.model.specs.Step.{stepped}
+use Rattle.model.specs.Stepped.{stepped}
 use Rattle.state.specs.Layout.{view}
 use Rattle.sound.specs.Lent.{under}
 use Rattle.kept.specs.declared.Kept.{Kept}

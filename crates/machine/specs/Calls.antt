@@ -4,9 +4,11 @@ use Prim.Native.Nat.{ℕ}
 use native.Mathlib.Decide.{decLt}
 use Rattle.parts.specs.Limits.{budget-max}
 use Rattle.model.specs.State.{St}
-use Rattle.model.specs.Step.{Answer, moved, refused, stepped}
+use Rattle.model.specs.Step.{Answer, moved, refused}
+use Rattle.model.specs.Stepped.{stepped}
 use Rattle.model.specs.Table.{Table}
-use Rattle.model.specs.Run.{Stop, ended, paused, noroom, Ran, ran}
+use Rattle.model.specs.Run.{ran}
+use Rattle.model.specs.Walk.{Stop, ended, paused, noroom, Ran}
 use Rattle.state.specs.Layout.{view}
 use Rattle.sound.specs.Lent.{under}
 use Rattle.lent.specs.Decided.{if-sound}

@@ -9,13 +9,14 @@ use Rattle.parts.specs.Limits.{symbols-max, cells-max, names-max, stuck-max, wa
 use Rattle.parts.specs.Sides.{cell, _:=_}
 use Rattle.model.specs.State.{St, equation}
 use Rattle.model.specs.Table.{Entry, Table}
-use Rattle.model.specs.Step.{moved, refused, fire-if, meet, rule-of, symbol-of}
-use Rattle.model.specs.Run.{one-made}
+use Rattle.model.specs.Step.{moved, refused, rule-of, symbol-of}
+use Rattle.model.specs.Stepped.{fire-if, meet}
+use Rattle.model.specs.Walk.{one-made}
 use Rattle.model.specs.Sound.{Sound}
 use Rattle.state.specs.Moves.{out-of-waiting, put-on, Pullable}
 use Rattle.state.specs.declared.Pile.the-variants.{Stucks}
 use Rattle.sound.specs.Lent.{under, Usable}
-use Rattle.table.specs.Testing.{Given}
+use Rattle.table.specs.Given.{Given}
 use Rattle.kept.specs.Right.{Right}
 use Rattle.kept.specs.declared.Kept.{Kept}
 use Rattle.firing.specs.Built.{Ruled, equations-of, cells-of, names-of}

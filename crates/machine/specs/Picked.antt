@@ -10,12 +10,13 @@ use Rattle.parts.specs.Typed.{plain, number}
 use Rattle.parts.specs.declared.Side.{Side}
 use Rattle.model.specs.State.{St}
 use Rattle.model.specs.Table.{Table}
-use Rattle.model.specs.Step.{moved, refused, wire, rule-at, stepped}
-use Rattle.model.specs.Run.{one-made}
+use Rattle.model.specs.Step.{moved, refused, rule-at}
+use Rattle.model.specs.Stepped.{wire, stepped}
+use Rattle.model.specs.Walk.{one-made}
 use Rattle.model.specs.Sound.{Sound}
 use Rattle.state.specs.Moves.{out-of-waiting, Pullable}
 use Rattle.sound.specs.Lent.{under}
-use Rattle.table.specs.Testing.{Given}
+use Rattle.table.specs.Given.{Given}
 use Rattle.kept.specs.Right.{Right}
 use Rattle.wiring.specs.Wiring.{pick, loop-here, Wirable}
 use Rattle.machine.specs.declared.outcome.Outcome.{Outcome}

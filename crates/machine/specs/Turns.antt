@@ -5,10 +5,11 @@ use Prim.Native.Nat.{ℕ, suc, _+_, _-_, _*_, _≤_}
 use Rattle.parts.specs.Limits.{waiting-max, names-max}
 use Rattle.model.specs.State.{St}
 use Rattle.model.specs.Table.{Table}
-use Rattle.model.specs.Run.{ended, paused, noroom, stopped, run}
+use Rattle.model.specs.Run.{stopped, run}
+use Rattle.model.specs.Walk.{ended, paused, noroom}
 use Rattle.model.specs.Sound.{Sound}
 use Rattle.sound.specs.Lent.{under}
-use Rattle.table.specs.Testing.{Given}
+use Rattle.table.specs.Given.{Given}
 use Rattle.kept.specs.Right.{Right}
 use Rattle.machine.specs.declared.turns.Running.{Running}
 use Rattle.machine.specs.declared.turns.Turn.{Turn}

@@ -4,7 +4,8 @@ use Rattle.calculus.specs.Calculus.{Step}
 use Rattle.calculus.specs.Descent.{Normal}
 use Rattle.model.specs.State.{St}
 use Rattle.model.specs.Table.{Table}
-use Rattle.model.specs.Sound.{SoundTable, book, Sound, meaning}
+use Rattle.model.specs.Sound.{book, Sound, meaning}
+use Rattle.model.specs.SoundTable.{SoundTable}
 use Rattle.model.specs.Proofs.Ended.{nothing-applies}
 
 pub ended-normal : {T : Table} → SoundTable T → {s : St} (h : Sound T s) → s .waiting .used ≡ 0

@@ -9,8 +9,10 @@ use Rattle.parts.specs.Limits.{waiting-max}
 use Rattle.parts.specs.Sides.{Side, name, cell, Pair, _:=_, side}
 use Rattle.model.specs.State.{St, used, free, bare, to, bond, listed, st}
 use Rattle.model.specs.Table.{Cell, Table}
-use Rattle.model.specs.Step.{moved, refused, stepped, Answer}
-use Rattle.model.specs.Run.{Stop, ended, run, ran, noroom, paused}
+use Rattle.model.specs.Step.{moved, refused, Answer}
+use Rattle.model.specs.Stepped.{stepped}
+use Rattle.model.specs.Run.{run, ran}
+use Rattle.model.specs.Walk.{Stop, ended, noroom, paused}
 use Rattle.model.specs.Sound.{mem-of, sides}
 use Rattle.model.specs.Load.{Net, loaded}
 

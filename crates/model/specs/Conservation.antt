@@ -4,19 +4,15 @@ use Prim.Native.Nat.{ℕ, _+_, _*_}
 use lib.ListN.{length}
 use Rattle.calculus.specs.Terms.{Conf}
 use Rattle.model.specs.State.{St, used}
-use Rattle.model.specs.Table.{Table, entry}
-use Rattle.model.specs.Sound.{SoundTable, Sound}
-use Rattle.model.specs.Load.{Net, loaded, NetReads}
-use Rattle.model.specs.Walk.{Walk, uses-in, below}
+use Rattle.model.specs.Table.{Table}
+use Rattle.model.specs.Sound.{Sound}
+use Rattle.model.specs.SoundTable.{SoundTable}
+use Rattle.model.specs.Load.{Net, loaded}
+use Rattle.model.specs.NetReads.{NetReads}
+use Rattle.model.specs.Walk.{Walk, over, right}
+use Rattle.model.specs.Agree.{uses-in}
 use Rattle.model.specs.Proofs.Cellslaw.{cells-law}
 use Rattle.model.specs.Proofs.Loaded.{load-sound, load-cells}
-
--- A sum over the rules of a table, by their numbers; and the cells on the right side of a rule.
-abbrev pub over : Table → (ℕ → ℕ) → ℕ
-over T f = below (length (T .rules)) f
-
-abbrev pub right : Table → ℕ → ℕ
-right T i = length ((entry T i) .cells)
 
 -- "After any steps from a load, cells in use equal those loaded plus, over the rules, times used multiplied by (cells
 -- on its right side less 2)." Here what is taken off stands on the other side, so that no number is below 0.

@@ -1,42 +1,25 @@
 -- Theorem 2, demand 2: read as a net, a step is no change, one or two Communications, or one Interaction by the very
 -- rule of the pair.
 use mathlib.Core.Path.{_≡_, sym, subst}
-use mathlib.Core.List.{List, [], _∷_}
-use Prim.Native.Nat.{ℕ, suc, _≤_, _<_}
-use lib.ListN.{length, set}
-use Rattle.calculus.specs.Calculus.{Label, Int, Step}
-use Rattle.calculus.specs.Descent.{Steps}
-use Rattle.calculus.specs.Nets.{_≈_}
-use Rattle.calculus.specs.Terms.{Conf}
+use mathlib.Core.List.{List}
+use Prim.Native.Nat.{ℕ, suc, _<_}
+use lib.ListN.{set}
+use Rattle.calculus.specs.Calculus.{Label}
 use Rattle.parts.specs.Limits.{loops-max}
 use Rattle.parts.specs.Sides.{name, _:=_, Pair}
 use Rattle.model.specs.State.{St, with-names, with-loops}
-use Rattle.model.specs.Table.{Entry, Table, Found, none, straight, turned, entry}
-use Rattle.model.specs.Step.{moved, place, taken-out, picked, rule-at, stepped, Answer}
-use Rattle.model.specs.Sound.{SoundTable, book, Sound, meaning}
+use Rattle.model.specs.Table.{Table, Found, none, straight, turned}
+use Rattle.model.specs.Step.{moved, place, taken-out, picked, rule-at, Answer}
+use Rattle.model.specs.Stepped.{stepped}
+use Rattle.model.specs.Sound.{Sound, meaning}
+use Rattle.model.specs.SoundTable.{SoundTable}
 use Rattle.model.specs.Kept.{step-sound}
 use Rattle.model.specs.Rows.{Joined, Row, loop, loop-joined}
 use Rattle.model.specs.StepTable.{step-table}
-use Rattle.model.specs.Walk.{drops, Coms}
+use Rattle.model.specs.Follow.{drops, Labels, communications, interaction, interaction-turned, ReadAs}
 use Rattle.model.specs.Proofs.Moves.{Kind, wiring, by-straight, by-turned}
 use Rattle.model.specs.Proofs.Selves.{self-bare}
 use Rattle.model.specs.Proofs.Walks.{moves, few-drops}
-
--- The labels of a step, by the rule that the picked equation fires, if any, and the number k of ties and joins that
--- it drops: of a rule, one Interaction by its number; else k Communications, which are none, one or two.
-pub data Labels (T : Table) (k : ℕ) : Found → List Label → Type 0 where
-  communications : k ≤ 2 → Labels T k none (Coms k)
-  interaction : {i : ℕ} {e : Entry} → i < length (T .rules) → entry T i ≡ e → Labels T k (straight i e) (Int i ∷ [])
-  interaction-turned : {i : ℕ} {e : Entry} → i < length (T .rules) → entry T i ≡ e
-      → Labels T k (turned i e) (Int i ∷ [])
-
--- Steps of the calculus with such labels go from C to C′, up to names, order and sides.
-pub record ReadAs (T : Table) (k : ℕ) (r : Found) (C C′ : Conf) : Type 0 where
-  pub labels : List Label
-  pub kind : Labels T k r labels
-  pub end : Conf
-  pub way : Steps (Step (book T)) C labels end
-  pub same : end ≈ C′
 
 pub demand-2 : {T : Table} (t : SoundTable T) {s s′ : St} (h : Sound T s) (p : ℕ) (e : stepped T s p ≡ moved s′)
     → ReadAs T (drops (picked s p) (s .names)) (rule-at T s p) (meaning h) (meaning (step-sound t h p e))

@@ -8,10 +8,12 @@ use Rattle.calculus.specs.Terms.{Conf}
 use Rattle.model.specs.State.{St}
 use Rattle.model.specs.Table.{Table}
 use Rattle.model.specs.Run.{ran}
-use Rattle.model.specs.Sound.{SoundTable, Sound, meaning}
-use Rattle.model.specs.Load.{Net, loaded, NetReads}
-use Rattle.model.specs.Agree.{EndsAt, Agrees, GoesOn, Finishes, Stopped}
-use Rattle.model.specs.Walk.{Walk, made-in, uses-in}
+use Rattle.model.specs.Sound.{Sound, meaning}
+use Rattle.model.specs.SoundTable.{SoundTable}
+use Rattle.model.specs.Load.{Net, loaded}
+use Rattle.model.specs.NetReads.{NetReads}
+use Rattle.model.specs.Agree.{Agrees, GoesOn, Finishes, uses-in}
+use Rattle.model.specs.Walk.{Walk, made-in, EndsAt, Stopped}
 use Rattle.model.specs.Proofs.Agreed.{agreed, agreed-loaded, two-walks, picks-end}
 use Rattle.model.specs.Proofs.Runs.{run-stopped}
 

@@ -5,9 +5,12 @@ use Rattle.calculus.specs.Nets.{_≈_}
 use Rattle.calculus.specs.Terms.{Conf}
 use Rattle.model.specs.State.{St}
 use Rattle.model.specs.Table.{Table}
-use Rattle.model.specs.Step.{moved, stepped}
-use Rattle.model.specs.Sound.{SoundTable, Sound, meaning}
-use Rattle.model.specs.Load.{Net, loaded, NetReads}
+use Rattle.model.specs.Step.{moved}
+use Rattle.model.specs.Stepped.{stepped}
+use Rattle.model.specs.Sound.{Sound, meaning}
+use Rattle.model.specs.SoundTable.{SoundTable}
+use Rattle.model.specs.Load.{Net, loaded}
+use Rattle.model.specs.NetReads.{NetReads}
 use Rattle.model.specs.Walk.{Walk}
 use Rattle.model.specs.Proofs.Walks.{moves, walked}
 use Rattle.model.specs.Proofs.Loaded as Loaded

@@ -1,10 +1,14 @@
 pub mod State
 pub mod Table
 pub mod Step
+pub mod Follow
+pub mod Stepped
 pub mod Run
 pub mod Reading
 pub mod Sound
+pub mod SoundTable
 pub mod Load
+pub mod NetReads
 pub mod Walk
 pub mod Rows
 pub mod Agree

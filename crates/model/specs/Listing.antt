@@ -3,43 +3,20 @@ use mathlib.Core.Path.{_≡_, refl}
 use mathlib.Core.List.{List, [], _∷_}
 use mathlib.Core.Logic.{inl, inr}
 use Prim.Native.Nat.{ℕ, zero, suc, _≤_, _<_}
-use native.Mathlib.Decide.{ℕ-discrete}
 use native.Mathlib.Omega.{arith}
 use lib.ListN.{length, getD}
 use Rattle.calculus.specs.Calculus.{Rule, SamePair}
-use Rattle.calculus.specs.Proofs.Rules.{distinct-different, reordered-of-counts}
-use Rattle.calculus.specs.Terms.{δ, var, node, nil, cons, Term, _==_, Conf}
+use Rattle.calculus.specs.Listing.{add-S, add-Z, start}
+use Rattle.calculus.specs.Example.{add-S-proper, add-Z-proper, unlike}
 use Rattle.parts.specs.Sides.{Side, name, cell}
 use Rattle.model.specs.Table.{Cell, no-cell, entry, arity}
 use Rattle.model.specs.Reading.{Reads, by-name, by-cell, no-pairs, pairs}
-use Rattle.model.specs.Sound.{Declared, SoundEntry, SoundTable, Sound}
-use Rattle.model.specs.Load.{loaded, NetReads}
+use Rattle.model.specs.Sound.{Sound}
+use Rattle.model.specs.SoundTable.{Declared, SoundEntry, SoundTable}
+use Rattle.model.specs.Load.{loaded}
+use Rattle.model.specs.NetReads.{NetReads}
 use Rattle.model.specs.Cases.{rules, listing}
 use Rattle.model.specs.Proofs.Loaded.{load-sound}
-
-abbrev Sᵗ : Term → Term
-Sᵗ t = node 1 (cons t nil)
-
-abbrev Zᵗ : Term
-Zᵗ = node 2 nil
-
-abbrev addᵗ : Term → Term → Term
-addᵗ t u = node 0 (cons t (cons u nil))
-
--- add(x,y) = S(z) ⟶ x = S(w), z = add(w,y), and add(x,y) = Z ⟶ x = y
-abbrev add-S : Rule
-add-S =
-    record {
-      left = 0;
-      right = 1;
-      xs = 0 ∷ 1 ∷ [];
-      ys = 4 ∷ [];
-      new = 8 ∷ [];
-      body = (var 0 == Sᵗ (var 8)) ∷ (var 4 == addᵗ (var 8) (var 1)) ∷ [];
-    }
-
-abbrev add-Z : Rule
-add-Z = record { left = 0; right = 2; xs = 0 ∷ 1 ∷ []; ys = []; new = []; body = (var 0 == var 1) ∷ [] }
 
 abbrev rule : ℕ → Rule
 rule zero = add-S
@@ -65,7 +42,6 @@ is-Z : Declared rules (record { symbol = 2; args = [] })
 is-Z = record { symbol = omega arith; args = refl }
 
 first : SoundEntry rules (entry rules 0) add-S
-unfolding δ ℕ-discrete
 first =
     record {
       means =
@@ -81,12 +57,7 @@ first =
                 (pairs (by-name (by-cell refl (by-name (by-name Reads.none)) Reads.none)) no-pairs);
             in-order = omega arith;
           };
-      proper =
-          record {
-            different = distinct-different (0 ∷ 1 ∷ 4 ∷ 8 ∷ []) (refl, (refl, (refl, (refl, tt))));
-            linear = reordered-of-counts (0 ∷ 8 ∷ 4 ∷ 8 ∷ 1 ∷ []) (0 ∷ 1 ∷ 4 ∷ 8 ∷ 8 ∷ []) (λ x. omega arith);
-            two-sided = λ e. absurd (omega arith);
-          };
+      proper = add-S-proper;
       left = omega arith;
       right = omega arith;
       cells = all-declared ((entry rules 0) .cells) (is-S (name 8), (is-add (name 8) (name 1), tt));
@@ -97,16 +68,10 @@ first =
     }
 
 second : SoundEntry rules (entry rules 1) add-Z
-unfolding δ ℕ-discrete
 second =
     record {
       means = record { left = refl; right = refl; xs = refl; ys = refl; new = refl; reads = pairs (by-name (by-name Reads.none)) no-pairs; in-order = omega arith };
-      proper =
-          record {
-            different = distinct-different (0 ∷ 1 ∷ []) (refl, (refl, tt));
-            linear = reordered-of-counts (0 ∷ 1 ∷ []) (0 ∷ 1 ∷ []) (λ x. refl);
-            two-sided = λ e. absurd (omega arith);
-          };
+      proper = add-Z-proper;
       left = omega arith;
       right = omega arith;
       cells = λ m o. absurd (omega arith);
@@ -130,25 +95,17 @@ rules-sound = record { few-symbols = omega arith; few-rules = omega arith; ariti
     entries (ℕ.suc ℕ.zero) h = second
     entries (ℕ.suc (ℕ.suc i)) h = absurd (omega arith)
 
-    apart : SamePair add-S add-Z → ⊥
-    apart (inl e) = omega (arith, e .1)
-    apart (inr e) = omega (arith, e .0)
-
-    apart′ : SamePair add-Z add-S → ⊥
-    apart′ (inl e) = omega (arith, e .1)
-    apart′ (inr e) = omega (arith, e .1)
+    unlike′ : SamePair add-Z add-S → ⊥
+    unlike′ (inl e) = omega (arith, e .1)
+    unlike′ (inr e) = omega (arith, e .1)
 
     single : (i j : ℕ) → i < 2 → j < 2 → SamePair (rule i) (rule j) → i ≡ j
     single ℕ.zero ℕ.zero h k p = refl
-    single ℕ.zero (ℕ.suc j) h k p = absurd (apart p)
-    single (ℕ.suc i) ℕ.zero h k p = absurd (apart′ p)
+    single ℕ.zero (ℕ.suc j) h k p = absurd (unlike p)
+    single (ℕ.suc i) ℕ.zero h k p = absurd (unlike′ p)
     single (ℕ.suc i) (ℕ.suc j) h k p = omega arith
 
--- The listing's net, ⟨ r | add(r,S(Z)) = S(Z) ⟩.
-abbrev pub listing-conf : Conf
-listing-conf = record { face = cons (var 0) nil; eqs = (addᵗ (var 0) (Sᵗ Zᵗ) == Sᵗ Zᵗ) ∷ [] }
-
-pub listing-reads : NetReads rules listing listing-conf
+pub listing-reads : NetReads rules listing start
 listing-reads =
     record {
       c₀ = [];

@@ -1,3 +1,4 @@
+pub mod Decisions
 pub mod Facts
 pub mod Cells
 pub mod Picks

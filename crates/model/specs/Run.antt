@@ -1,30 +1,15 @@
--- The run.
+-- How a run is computed. `run-is-right` (Stopped.antt) says what it is: steps on the head, until there is a reason to
+-- stop.
 use Prim.Native.Nat.{ℕ, zero, suc, _+_, _*_}
 use Rattle.parts.specs.Limits.{waiting-max, names-max}
 use Rattle.model.specs.State.{St}
-use Rattle.model.specs.Table.{Table, Found, none, straight, turned}
-use Rattle.model.specs.Step.{moved, refused, stepped, rule-at}
-
--- "It answers ended (nothing waits), paused (the head is an interaction and the budget is spent) or noroom, with the
--- interactions made."
-pub data Stop : Type 0 where
-  ended : Stop
-  paused : Stop
-  noroom : Stop
-
-pub record Ran : Type 0 where
-  pub stop : Stop
-  pub made : ℕ
-  pub state : St
+use Rattle.model.specs.Table.{Table}
+use Rattle.model.specs.Step.{moved, refused, rule-at}
+use Rattle.model.specs.Stepped.{stepped}
+use Rattle.model.specs.Walk.{Stop, ended, paused, noroom, Ran, one-made}
 
 abbrev pub stopped : Stop → ℕ → St → Ran
 stopped w n s = record { stop = w; made = n; state = s }
-
--- The interactions that a picked equation makes, by the rule that it fires: one or none.
-abbrev pub one-made : Found → ℕ
-one-made none = 0
-one-made (straight i e) = 1
-one-made (turned i e) = 1
 
 -- "A run picks 0 again and again"; "at the head, paused comes before noroom". `made` interactions were made before,
 -- and `steps` is a number of steps that suffices: between two interactions no more than waiting-max + names-max are

@@ -1,13 +1,11 @@
--- When a table and a state are sound, and what they mean in the calculus.
+-- When a state is sound, and what a table and a state mean in the calculus.
 use mathlib.Core.Path.{_≡_}
 use mathlib.Core.List.{List, [], _∷_, _++_, map}
 use Prim.Native.Nat.{ℕ, zero, suc, _+_, _*_, _-_, _≤_, _<_, min, max, pred}
 use lib.ListN.{length, getD, take, drop}
-use Rattle.calculus.specs.Calculus.{Rule, Proper, SamePair, Book}
-use Rattle.calculus.specs.Rules.{Plain}
+use Rattle.calculus.specs.Calculus.{Rule, Book}
 use Rattle.calculus.specs.Terms.{count, Conf, names, eqs-names}
-use Rattle.parts.specs.Limits.{arity-max, symbols-max, rules-max, rule-equations-max, rule-cells-max, rule-names-max}
-use Rattle.parts.specs.Limits.{face-max, cells-max, names-max, waiting-max, stuck-max, loops-max}
+use Rattle.parts.specs.Limits.{arity-max, face-max, cells-max, names-max, waiting-max, stuck-max, loops-max}
 use Rattle.parts.specs.Sides.{Side, name, cell, Pair, _:=_, side}
 use Rattle.model.specs.State.{Stack, St, listed, bound, from}
 use Rattle.model.specs.Table.{Cell, Entry, Table, none, find, arity, no-cell, entry}
@@ -33,34 +31,6 @@ pub record Means (T : Table) (e : Entry) (r : Rule) : Type 0 where
   pub new : r .new ≡ from first-new (e .fresh)
   pub reads : ReadsAll (λ m. getD (e .cells) m no-cell) (e .body) (r .body) (from 0 (length (e .cells)))
   pub in-order : InOrder 0 (eqs-names (r .body))
-
--- A cell is of a declared symbol, with that many arguments.
-pub record Declared (T : Table) (k : Cell) : Type 0 where
-  pub symbol : k .symbol < length (T .arities)
-  pub args : length (k .args) ≡ arity T (k .symbol)
-
--- The rule conditions of document 01: the names by `proper`, the sizes, and for a symbol with itself `plain`: "its
--- right side has no agents and no new names, and its set of unordered pairs is unchanged when the two left argument
--- lists change places".
-pub record SoundEntry (T : Table) (e : Entry) (r : Rule) : Type 0 where
-  pub means : Means T e r
-  pub proper : Proper r
-  pub left : e .left < length (T .arities)
-  pub right : e .right < length (T .arities)
-  pub cells : (m : ℕ) → m < length (e .cells) → Declared T (getD (e .cells) m no-cell)
-  pub few-equations : length (e .body) ≤ rule-equations-max
-  pub few-cells : length (e .cells) ≤ rule-cells-max
-  pub few-names : e .fresh ≤ rule-names-max
-  pub plain : e .left ≡ e .right → Plain r × (e .cells ≡ [])
-
--- "One rule for each pair of symbols, whichever is written first."
-pub record SoundTable (T : Table) : Type 0 where
-  pub few-symbols : length (T .arities) ≤ symbols-max
-  pub few-rules : length (T .rules) ≤ rules-max
-  pub arities : (s : ℕ) → arity T s ≤ arity-max
-  pub rule : ℕ → Rule
-  pub entries : (i : ℕ) → i < length (T .rules) → SoundEntry T (entry T i) (rule i)
-  pub single : (i j : ℕ) → i < length (T .rules) → j < length (T .rules) → SamePair (rule i) (rule j) → i ≡ j
 
 -- The rules of the calculus that a table gives, by number.
 abbrev pub book : Table → Book

@@ -1,20 +1,31 @@
--- The step on a picked equation.
+-- What the rows of the step table speak of: the picked equation, an equation put, a pair held, a rule fired, two
+-- names joined, and room. How a step is computed with it stands in Stepped.antt; that it is the row that holds, in
+-- StepTable.antt.
 use mathlib.Core.List.{List, [], _∷_, _++_, map}
 use Prim.Native.Nat.{ℕ, suc, _+_, _*_, _-_, _≤_, pred}
-use native.Mathlib.Decide.{ℕ-discrete, decLt, decLe}
 use lib.ListN.{length, getD, take, drop, set}
 use lib.Seq.{sets}
-use Rattle.parts.specs.Limits.{arity-max, cells-max, names-max, waiting-max, loops-max}
+use Rattle.parts.specs.Limits.{arity-max, cells-max, names-max, waiting-max}
 use Rattle.parts.specs.Sides.{Side, name, cell, Pair, _:=_, code, side}
-use Rattle.model.specs.State.{Stack, stack, St, with-cells, with-names, with-waiting, with-stuck, with-loops}
-use Rattle.model.specs.State.{equation, pushed, pushed-all, pulled, bound, Bond, free, bare, to, bond, used}
-use Rattle.model.specs.State.{lowest, zeros}
-use Rattle.model.specs.Table.{Cell, Entry, Table, Found, none, straight, turned, find}
+use Rattle.model.specs.State.{Stack, stack, St, with-cells, with-names, with-waiting, with-stuck}
+use Rattle.model.specs.State.{equation, pushed, pushed-all, pulled, bound, used, lowest, zeros}
+use Rattle.model.specs.Table.{Cell, Entry, Table, Found, none, find}
 
 -- A state after a step, or the number of a refusal.
 pub data Answer : Type 0 where
   moved : St → Answer
   refused : ℕ → Answer
+
+-- "Picks count from 0 at the head." Number 12: "pick at or past the number waiting".
+abbrev pub place : St → ℕ → ℕ
+place s p = s .waiting .used - suc p
+
+abbrev pub picked : St → ℕ → Pair
+picked s p = equation (place s p) (s .waiting .words)
+
+-- "The picked equation leaves the list and the rest keep their order"; it is number k from the start.
+abbrev pub taken-out : ℕ → St → St
+taken-out k s = with-waiting (stack (pulled k (s .waiting .words)) (pred (s .waiting .used))) s
 
 -- "put" means at the head. Of several, the first becomes the head.
 abbrev pub push : Pair → Stack → Stack
@@ -25,10 +36,6 @@ put p s = with-waiting (push p (s .waiting)) s
 
 abbrev pub puts : List Pair → St → St
 puts ps s = with-waiting (stack (pushed-all (s .waiting .used) ps (s .waiting .words)) (s .waiting .used + length ps)) s
-
--- "The picked equation leaves the list and the rest keep their order"; it is number k from the start.
-abbrev pub taken-out : ℕ → St → St
-taken-out k s = with-waiting (stack (pulled k (s .waiting .words)) (pred (s .waiting .used))) s
 
 -- "two cells, no rule": "pair goes to the head of the stuck list".
 abbrev pub held : ℕ → ℕ → St → St
@@ -98,102 +105,24 @@ fired e a b s =
     (write-arguments (new-cells e a b s) (copies e a b s) (zero-cell b (zero-cell a (s .arguments))))
     s))
 
--- Number 13 for an interaction: "cells in use, less 2, plus the rule's cells, passes 2,048; names in use plus the new
--- ones passes 2,048; waiting, less 1, plus the rule's equations, passes 1,024". Here the picked equation has left the
--- list, so waiting is already less 1.
+-- Two names joined: each tells of the other.
+abbrev pub joined : ℕ → ℕ → List ℕ → List ℕ
+joined x y l = set (set l x (bound (name y))) y (bound (name x))
+
+-- Room for a rule's right side: none of what number 13 names passes its size (`Passes` in Rows.antt has the words).
+-- Here the picked equation has left the list, so waiting is already less 1.
 abbrev pub Room : Entry → St → Type 0
 Room e s =
     (used (s .symbols) - 2 + length (e .cells) ≤ cells-max)
     × (used (s .names) + e .fresh ≤ names-max)
     × (s .waiting .used + length (e .body) ≤ waiting-max)
 
-abbrev pub all-three : {A B C : Type 0} → Dec A → Dec B → Dec C → Dec (A × B × C)
-all-three c d e =
-    elim c [
-      | no p ↦ no (λ h. p (h .0))
-      | yes p ↦ elim d [ no q ↦ no (λ h. q (h .1)) | yes q ↦ elim e [ no r ↦ no (λ h. r (h .2)) | yes r ↦ yes (p, q, r) ] ]
-    ]
-
-abbrev pub room : (e : Entry) (s : St) → Dec (Room e s)
-room e s = all-three (decLe _ _) (decLe _ _) (decLe _ _)
-
-abbrev pub fire-if : Entry → ℕ → ℕ → St → Answer
-fire-if e a b s = elim (room e s) [ yes h ↦ moved (fired e a b s) | no h ↦ refused 13 ]
-
+-- The rule of two cells, by their symbols.
 abbrev pub symbol-of : ℕ → St → ℕ
 symbol-of c s = pred (getD (s .symbols) c 0)
 
 abbrev pub rule-of : Table → ℕ → ℕ → St → Found
 rule-of T a b s = find (T .rules) 0 (symbol-of a s) (symbol-of b s)
-
-abbrev pub meet : Table → ℕ → ℕ → St → Answer
-meet T a b s =
-    elim (rule-of T a b s) [
-      | none ↦ moved (held a b s)
-      | straight i e ↦ fire-if e a b s
-      | turned i e ↦ fire-if e b a s
-    ]
-
--- A name on a side. Each side is followed to its end: a bare name is its own end; of a tied or joined one the tie or
--- join is dropped, and its end is the cell or the name at the other end, which is then bare.
-pub record Followed : Type 0 where
-  pub end : Side
-  pub names : List ℕ
-
-abbrev pub drop-bond : ℕ → Side → List ℕ → List ℕ
-drop-bond x (name y) l = set (set l x 0) y 1
-drop-bond x (cell c) l = set l x 0
-
-abbrev pub follow-by : ℕ → List ℕ → Bond → Followed
-follow-by x l free = record { end = name x; names = l }
-follow-by x l bare = record { end = name x; names = l }
-follow-by x l (to s) = record { end = s; names = drop-bond x s l }
-
-abbrev pub follow : Side → List ℕ → Followed
-follow (name x) l = follow-by x l (bond (getD l x 0))
-follow (cell c) l = record { end = cell c; names = l }
-
--- Then the two ends are fastened: a name to a cell is tied, two names are joined, two cells are put as an equation; a
--- name to itself is a loop. Number 13 for a loop: "the count is at its end".
-abbrev pub looped : ℕ → St → Answer
-looped x s =
-    elim (decLt (s .loops) loops-max) [
-      | yes h ↦ moved (with-loops (suc (s .loops)) (with-names (set (s .names) x 0) s))
-      | no h ↦ refused 13
-    ]
-
-abbrev pub joined : ℕ → ℕ → List ℕ → List ℕ
-joined x y l = set (set l x (bound (name y))) y (bound (name x))
-
-abbrev pub fasten : Side → Side → St → Answer
-fasten (name x) (name y) s =
-    elim (ℕ-discrete x y) [ yes p ↦ looped x s | no p ↦ moved (with-names (joined x y (s .names)) s) ]
-fasten (name x) (cell c) s = moved (with-names (set (s .names) x (bound (cell c))) s)
-fasten (cell c) (name y) s = moved (with-names (set (s .names) y (bound (cell c))) s)
-fasten (cell a) (cell b) s = moved (put (cell a := cell b) s)
-
-abbrev pub wire : Side → Side → St → Answer
-wire a b s =
-    let f = follow a (s .names) in
-    let g = follow b (f .names) in
-    fasten (f .end) (g .end) (with-names (g .names) s)
-
--- "U = x is treated as x = U."
-abbrev pub act : Table → Pair → St → Answer
-act T (name x := t) s = wire (name x) t s
-act T (cell a := name y) s = wire (name y) (cell a) s
-act T (cell a := cell b) s = meet T a b s
-
--- "Picks count from 0 at the head." Number 12: "pick at or past the number waiting".
-abbrev pub place : St → ℕ → ℕ
-place s p = s .waiting .used - suc p
-
-abbrev pub picked : St → ℕ → Pair
-picked s p = equation (place s p) (s .waiting .words)
-
-unfoldable pub stepped : Table → St → ℕ → Answer
-stepped T s p =
-    elim (decLt p (s .waiting .used)) [ yes h ↦ act T (picked s p) (taken-out (place s p) s) | no h ↦ refused 12 ]
 
 -- The rule that the picked equation fires, if any.
 abbrev pub rule-for : Table → Pair → St → Found

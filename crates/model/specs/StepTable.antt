@@ -3,7 +3,8 @@ use mathlib.Core.Path.{_≡_, sym, _∙_, subst}
 use Prim.Native.Nat.{ℕ, _<_}
 use Rattle.model.specs.State.{St}
 use Rattle.model.specs.Table.{Table}
-use Rattle.model.specs.Step.{Answer, place, taken-out, picked, stepped}
+use Rattle.model.specs.Step.{Answer, place, taken-out, picked}
+use Rattle.model.specs.Stepped.{stepped}
 use Rattle.model.specs.Sound.{Sound}
 use Rattle.model.specs.Rows.{Row}
 use Rattle.model.specs.Proofs.Tabled.{row-act, acts, some-row}

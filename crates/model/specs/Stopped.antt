@@ -7,10 +7,12 @@ use native.Mathlib.Decide.{decLt}
 use native.Mathlib.Omega.{arith}
 use Rattle.model.specs.State.{St}
 use Rattle.model.specs.Table.{Table}
-use Rattle.model.specs.Step.{refused, picked, stepped}
+use Rattle.model.specs.Step.{refused, picked}
+use Rattle.model.specs.Stepped.{stepped}
 use Rattle.model.specs.Run.{ran}
-use Rattle.model.specs.Sound.{SoundTable, Sound}
-use Rattle.model.specs.Agree.{Stopped}
+use Rattle.model.specs.Sound.{Sound}
+use Rattle.model.specs.SoundTable.{SoundTable}
+use Rattle.model.specs.Walk.{Stopped}
 use Rattle.model.specs.Rows.{NoRoom}
 use Rattle.model.specs.StepTable.{step-table, every-step}
 use Rattle.model.specs.Proofs.Refused.{number, refusing, roomless}

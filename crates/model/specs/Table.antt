@@ -1,10 +1,9 @@
 -- The table of agents and rules, and the look-up of a pair.
-use mathlib.Core.Path.{_≡_}
 use mathlib.Core.List.{List, [], _∷_}
 use Prim.Native.Nat.{ℕ, suc}
-use native.Mathlib.Decide.{ℕ-discrete}
 use lib.ListN.{getD}
 use Rattle.parts.specs.Sides.{Side, Pair}
+use Rattle.model.specs.Proofs.Decisions.{both}
 
 -- "A cell is one agent: a symbol and its arguments."
 pub record Cell : Type 0 where
@@ -46,13 +45,7 @@ pub data Found : Type 0 where
   straight : ℕ → Entry → Found
   turned : ℕ → Entry → Found
 
-abbrev pub both : (a b c d : ℕ) → Dec ((a ≡ c) × (b ≡ d))
-both a b c d =
-    elim (ℕ-discrete a c) [
-      | yes p ↦ elim (ℕ-discrete b d) [ yes q ↦ yes (p, q) | no q ↦ no (λ h. q (h .1)) ]
-      | no p ↦ no (λ h. p (h .0))
-    ]
-
+-- (`both s u a b` decides whether s is a and u is b.)
 abbrev pub find : List Entry → ℕ → ℕ → ℕ → Found
 find [] i s u = none
 find (e ∷ l) i s u =

@@ -12,7 +12,8 @@ use Rattle.parts.specs.Sides.{Side, name, cell, Pair, _:=_}
 use Rattle.model.specs.State.{St, zeros, listed, bound, Bond, free, bare, to, bond}
 use Rattle.model.specs.Table.{Cell, Entry, Table, Found, none, straight, turned, find}
 use Rattle.model.specs.Sound.{width, mem-of, sides, pool, live}
-use Rattle.model.specs.Walk.{hops, below}
+use Rattle.model.specs.Walk.{below}
+use Rattle.model.specs.Follow.{hops}
 
 -- f holds of all numbers below n.
 unfoldable pub every : ℕ → (ℕ → Bool) → Bool

@@ -4,7 +4,8 @@ use mathlib.Core.Bool.{true}
 use mathlib.Core.Logic.{_↔_}
 use Rattle.model.specs.State.{St}
 use Rattle.model.specs.Table.{Table}
-use Rattle.model.specs.Sound.{SoundTable, Sound}
+use Rattle.model.specs.Sound.{Sound}
+use Rattle.model.specs.SoundTable.{SoundTable}
 use Rattle.model.specs.Test.{tested}
 use Rattle.model.specs.Proofs.Tested.{test-passed, sound-tested}
 

@@ -39,7 +39,7 @@ fn number_4(line: &[u8]) -> u8
 }
 
 // Numbers 2, 3 and 4 of a `face` line, 0 where there is none.
-pub fn face_shape(line: &[u8]) -> u8
+fn face_shape(line: &[u8]) -> u8
     ensures { λ r. ⌜ Shaped faceFields (now (line .entry)) r ⌝ }
 {
     if first_bad(line) < line.len() {
@@ -52,7 +52,7 @@ pub fn face_shape(line: &[u8]) -> u8
 }
 
 // The same of an `eq` line.
-pub fn eq_shape(line: &[u8]) -> u8
+fn eq_shape(line: &[u8]) -> u8
     ensures { λ r. ⌜ Shaped eqFields (now (line .entry)) r × (r ≡ 0 → length (fields (now (line .entry))) ≡ 3) ⌝ }
 {
     if first_bad(line) < line.len() {

@@ -144,16 +144,7 @@ pub fn judge(
         return 5;
     }
     let from = at + field_start(line, 1);
-    if enter_names(
-        text,
-        from,
-        end,
-        from,
-        from,
-        agents,
-        Limits::NET_NAMES as u16,
-        sheet,
-    ) {
+    if enter_names(text, from, end, agents, Limits::NET_NAMES as u16, sheet) {
         return number_7(text, from, end, terms_in(line), agents, sheet, codes, used);
     }
     5

@@ -21,7 +21,7 @@ use Rattle.texts.specs.Meaning.{meantNet}
 use Rattle.texts.specs.Good.{GoodBook, GoodNet}
 use Rattle.texts.specs.Main as Texts
 use Rattle.table.specs.Layout.{agentsIn, tableBytes}
-use Rattle.table.specs.Testing.{Given}
+use Rattle.table.specs.Given.{Given}
 use Rattle.nets.specs.Answer.{filled, kept, told, soundTable, netCall}
 use Rattle.nets.specs.Proofs.Calls as Calls
 use Rattle.nets.specs.Proofs.Theorems as Theorems

@@ -1,13 +1,13 @@
 // The reader of net texts: it decides first and writes last, and what it fills is overwritten, not tested.
-pub mod rest; // rest.rt: the `eq` lines
-pub mod front; // front.rt: the header and the `face` line
-pub mod whole; // whole.rt: all lines, number 11, number 8
+mod rest; // rest.rt: the `eq` lines
+mod front; // front.rt: the header and the `face` line
+mod whole; // whole.rt: all lines, number 11, number 8
 
 use lines::words::agents_part;
 use loading::Codes;
 use loading::fill;
 use parts::Limits;
-use table::sound::table_sound;
+use table_test::whole::table_sound;
 use terms::sheet::Sheet;
 use twice::Marks;
 use whole::read_lines;
@@ -15,7 +15,7 @@ ghost use mathlib.Core.Path.{_≡_};
 ghost use Prim.Native.Nat.{_≤_};
 ghost use lib.ListN.{length};
 ghost use Rattle.parts.specs.Limits.{text-max};
-ghost use Rattle.table.specs.Testing.{Given};
+ghost use Rattle.table.specs.Given.{Given};
 ghost use Rattle.state.specs.Layout.{view};
 ghost use Rattle.nets.specs.Answer.{told, netCall};
 

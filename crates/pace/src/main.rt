@@ -1,4 +1,4 @@
-// Runs one net as often as the first argument says, with the budget that the second gives, and prints the interactions made in all: a
+// Runs one net as often as the first argument says, with the budget that the second gives, and prints the interactions of each run: a
 // program to be timed from outside.
 use machine::calls::RunAnswer;
 use parts::Limits;

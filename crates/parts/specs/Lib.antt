@@ -1,4 +1,6 @@
 pub mod Limits
 pub mod Segments
+pub mod SegmentLaws
 pub mod Sides
+pub mod Codes
 pub mod Typed

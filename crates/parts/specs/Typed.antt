@@ -1,7 +1,8 @@
 -- What the typed sides and equations of the code stand for.
 use mathlib.Core.Path.{_≡_, refl, ap, _∙_}
 use Prim.Native.Nat.{ℕ}
-use Rattle.parts.specs.Sides.{name, cell, Pair, _:=_, code, side, side-code, code-side}
+use Rattle.parts.specs.Sides.{name, cell, Pair, _:=_, code, side}
+use Rattle.parts.specs.Codes.{side-code, code-side}
 use Rattle.parts.specs.Sides as Plain
 use Rattle.parts.specs.declared.Side.{Side}
 use Rattle.parts.specs.declared.Side.the-variants.{Name, Cell}

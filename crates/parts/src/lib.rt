@@ -6,9 +6,7 @@ ghost use Rattle.parts.specs.Sides.{code, side};
 ghost use Rattle.parts.specs.Typed.{plain, number, typed, equation};
 
 // The sizes of document 01. A size that the code cites is written here and in no other place.
-pub struct Limits {
-    pub unused: bool,
-}
+pub struct Limits;
 
 impl Limits {
     pub const TEXT: usize = 65536;

@@ -8,7 +8,8 @@ use Rattle.parts.specs.Limits.{identifier-max, symbols-max, arity-max, names-ma
 use Rattle.parts.specs.Sides.{Side, name, cell, side}
 use Rattle.model.specs.State.{St}
 use Rattle.model.specs.Table.{Table}
-use Rattle.model.specs.Sound.{SoundTable, Sound}
+use Rattle.model.specs.Sound.{Sound}
+use Rattle.model.specs.SoundTable.{SoundTable}
 use Rattle.model.specs.Proofs.Ranges.{LiveSide}
 use Rattle.texts.specs.Books.{Agent}
 use Rattle.table.specs.Layout.{agentsIn}

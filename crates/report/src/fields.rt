@@ -21,7 +21,7 @@ pub fn put_bytes(out: &mut [u8], at: usize, word: &[u8]) -> usize
 }
 
 // A number in decimal, its last digit last.
-pub fn put_number(out: &mut [u8], at: usize, n: usize) -> usize
+fn put_number(out: &mut [u8], at: usize, n: usize) -> usize
     requires { ⌜ at + length (digits n) ≤ far ⌝ }
     ensures { λ r. ⌜ Puts (digits n) at (now (out .entry)) r (now (out .exit)) ⌝ }
 {

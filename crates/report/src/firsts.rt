@@ -9,9 +9,7 @@ ghost use Rattle.report.specs.Firsts.{refusal, stopped, ended, word-max}
 ghost use Rattle.report.specs.Begun.{Begun};
 
 // The room that a first line may take: words of at most 8 bytes and numbers of at most 20 digits.
-pub struct First {
-    pub unused: bool,
-}
+pub struct First;
 
 impl First {
     pub const SIZE: usize = 128;

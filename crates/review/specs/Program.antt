@@ -1,18 +1,10 @@
 -- What `evaluate` prints of two texts, by the definitions of the other calls; `netrun` adds nothing but the files.
-use Prim.Native.Nat.{ℕ}
-use mathlib.Core.Path.{_≡_}
-use mathlib.Core.List.{List}
-use Rattle.texts.specs.Books.{Book, Net, wordRules, wordNet}
-use Rattle.texts.specs.Answers.{accepted}
-use Rattle.texts.specs.Coded.{tableOf, machine, load}
-use Rattle.texts.specs.NetText.{readNet}
-use Rattle.texts.specs.RuleText.{readRules}
-use Rattle.texts.specs.Refused.{RulesRefused, NetRefused}
+use mathlib.Core.Path.{_∙_}
 use Rattle.texts.specs.Main as Texts
-use Rattle.model.specs.Load.{loaded}
-use Rattle.model.specs.Run.{ran}
 use Rattle.report.specs.Firsts.{refusal}
-use Rattle.evaluation.specs.Evaluated.{budget, running, net-printed, rules-printed, evaluated}
+use Rattle.evaluation.specs.Evaluated.{budget, ending, running, net-printed, rules-printed, evaluated}
+use Rattle.review.specs.Words.{ℕ, _≡_, List, Book, Net, wordRules, wordNet, accepted, tableOf, machine, load, readNet, readRules, RulesRefused, NetRefused, loaded, ended, ran, Sound, meaning, answer}
+use Rattle.review.specs.Proofs.{Runs.end-running}
 
 -- "A refusal prints `refused`, `rules` or `net` [..], number, line": of the rule text, and then the net text is not looked
 -- at;
@@ -34,3 +26,11 @@ pub run-printed : (rules net : List ℕ) (b : Book) (n : Net) → readRules rule
     ≡ running (b .agents) (machine (tableOf b)) (ran (machine (tableOf b)) budget (loaded (load (b .agents) n)))
 unfolding evaluated rules-printed net-printed
 run-printed rules net b n e f = rw (e, f)
+
+-- Where it ended, that is the first line, and the lines of the answer of the net that the end stands for.
+pub end-printed : (rules net : List ℕ) (b : Book) (n : Net) → readRules rules ≡ accepted b
+    → readNet (b .agents) net ≡ accepted n
+    → let r = ran (machine (tableOf b)) budget (loaded (load (b .agents) n)) in
+    r .stop ≡ ended → (h : Sound (machine (tableOf b)) (r .state))
+    → evaluated rules net ≡ ending (b .agents) (r .made) (answer (meaning h))
+end-printed rules net b n e f s h = run-printed rules net b n e f ∙ end-running rules net b n e f s h

@@ -1,31 +1,7 @@
 -- What each public call promises, word for word: one relation between what it was lent, its answer and what it leaves.
-use Prim.Native.Nat.{ℕ}
-use mathlib.Core.Path.{_≡_}
-use mathlib.Core.Bool.{Bool, true}
-use mathlib.Core.List.{List}
-use mathlib.Core.Logic.{_↔_}
-use lib.ListN.{length}
-use lib.Seq.{sets}
-use Rattle.state.specs.Layout.{state-size, view}
-use Rattle.state.specs.Whole.{Words}
-use Rattle.model.specs.State.{empty}
-use Rattle.model.specs.Sound.{meaning}
-use Rattle.answers.specs.Answer.{Answer, answer}
-use Rattle.answers.specs.Text.{answer-text}
-use Rattle.table.specs.Layout.{agentsIn, bytesOf}
-use Rattle.table.specs.Put.{no-table}
-use Rattle.table.specs.Testing.{Given}
-use Rattle.lent.specs.Both.{BothSound, sound-state}
-use Rattle.rules.specs.Answer.{left, rulesRead}
-use Rattle.rules.specs.declared.RulesAnswer.{RulesAnswer}
-use Rattle.nets.specs.Answer.{told, netCall}
-use Rattle.nets.specs.declared.NetAnswer.{NetAnswer}
-use Rattle.answer.specs.Called.{given, called}
-use Rattle.answer.specs.declared.Given.{Given as Answered}
-use Rattle.evaluation.specs.Evaluated.{evaluated}
-use Rattle.machine.specs.Calls.{out, step-told, step-called, run-told, run-called}
-use Rattle.machine.specs.declared.calls.StepAnswer.{StepAnswer}
-use Rattle.machine.specs.declared.calls.RunAnswer.{RunAnswer}
+use Rattle.answers.specs.Answer.{Answer}
+use Rattle.answer.specs.declared.EndAnswer.{EndAnswer}
+use Rattle.review.specs.Words.{ℕ, _≤_, _≡_, Bool, true, List, _++_, _↔_, length, drop, sets, state-size, view, Words, empty, meaning, answer, answer-text, agentsIn, bytesOf, no-table, Given, BothSound, sound-state, left, rulesRead, RulesAnswer, told, netCall, NetAnswer, end-told, given, called, evaluated, out, step-told, step-called, run-told, run-called, StepAnswer, RunAnswer}
 
 -- A lent state: an array of that many words of 16 bits. Every array that a caller can lend is one.
 pub record StateArray (v : List ℕ) : Type 0 where
@@ -49,8 +25,8 @@ pub record RunCall (w v : List ℕ) (budget : ℕ) (r : RunAnswer) (v′ : List 
   pub promised : out (run-told r) (view v′) ≡ run-called w v budget
 
 -- read_answer, lent a table w, a state v and an output o, answers g and leaves the output o′.
-pub record AnswerCall (w v o : List ℕ) (g : Answered) (o′ : List ℕ) : Type 0 where
-  pub promised : given g o′ ≡ called w v o
+pub record AnswerCall (w v o : List ℕ) (g : EndAnswer) (o′ : List ℕ) : Type 0 where
+  pub promised : given (end-told g) o′ ≡ called w v o
 
 -- evaluate, lent two texts and an output o, answers r and leaves the output o′.
 pub record EvaluateCall (rules net o : List ℕ) (r : ℕ) (o′ : List ℕ) : Type 0 where
@@ -72,9 +48,33 @@ pub record EmptyState (r : List ℕ) : Type 0 where
 pub record EmptyTable (r : List ℕ) : Type 0 where
   pub promised : r ≡ bytesOf no-table
 
+-- One answer and one thing left, of those that can be lent, meet the promise of a call.
+pub record One {A : Type 0} (Lent : List ℕ → Type 0) (Call : A → List ℕ → Type 0) : Type 0 where
+  pub answer : A
+  pub left : List ℕ
+  pub meets : Call answer left
+  pub once : (r q : A) (u v : List ℕ) → Lent u → Lent v → Call r u → Call q v → (r ≡ q) × (u ≡ v)
+
+-- Whatever bytes.
+abbrev pub Any : List ℕ → Type 0
+Any u = Unit {0}
+
 -- What the reader of the end is to print of a sound state: the answer of the net that it stands for, and its lines.
 abbrev pub net-answer : {w v : List ℕ} → BothSound w v → Answer
 net-answer h = answer (meaning (sound-state h))
 
 abbrev pub net-lines : {w v : List ℕ} → BothSound w v → List ℕ
 net-lines {w} h = answer-text (agentsIn w) (net-answer h)
+
+-- What a call that reads the end and is not refused has made of the lent state: nothing waits in it; the first bytes of
+-- the output are the lines of the answer of its net, and the others stand; and their length, the loops, the stuck pairs
+-- and the knot are told.
+pub record Printed (w v o : List ℕ) (long loops stuck knot : ℕ) (o′ : List ℕ) : Type 0 where
+  pub sound : BothSound w v
+  pub nothing-waits : (view v) .waiting .used ≡ 0
+  pub fits : length (net-lines sound) ≤ length o
+  pub out : o′ ≡ net-lines sound ++ drop (length (net-lines sound)) o
+  pub is-long : long ≡ length (net-lines sound)
+  pub is-loops : loops ≡ (net-answer sound) .loops
+  pub is-stuck : stuck ≡ (net-answer sound) .stuck
+  pub is-knot : knot ≡ (net-answer sound) .knot

@@ -1,13 +1,13 @@
 // An agent line: numbers 4 to 6, and the table with one agent more.
+use field_tests::sizes::too_long;
 use lines::words::agents_part;
 use lines::words::declared;
 use parts::Limits;
+use putting::put_agent;
 use scan::cutting::field;
-use scan::sizes::too_long;
 use scan::words::symbol;
 use table::reading::symbol_count;
 use table::reading::wide;
-use table::writing::put_agent;
 ghost use mathlib.Core.Path.{_≡_};
 ghost use mathlib.Core.List.{[]};
 ghost use lib.ListN.{length, getD};

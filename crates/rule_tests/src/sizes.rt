@@ -54,7 +54,7 @@ fn last_new(word: &[u8], left: &[u8], later: &[u8], agents: &[u8]) -> bool
 }
 
 // How many different names stand on the right and nowhere on the left: each is counted where it stands last.
-pub fn new_names(left: &[u8], right: &[u8], agents: &[u8]) -> usize
+fn new_names(left: &[u8], right: &[u8], agents: &[u8]) -> usize
     ensures { λ r. ⌜ r ≡ length (different (keep (newWord (agentsOf (now (agents .entry))) (wordsIn (now (left .entry)))) (wordsIn (now (right .entry))))) ⌝ }
 {
     let mut n: usize = 0;

@@ -13,7 +13,8 @@ use Rattle.texts.specs.Terms.{Term, spell}
 use Rattle.texts.specs.Books.{Book, Rule, isRule, add, pairs, lefts, rights}
 use Rattle.texts.specs.Answers.{OfLine, fault, absent, need, refuse, _>>=_}
 use Rattle.texts.specs.RuleText.{Shape, agentShape, ruleShape, even, ruleless, shapeOf, shape, termsOf, recordOf, judged, ruleLine}
-use Rattle.texts.specs.Good.{GoodBook, Fits, shapeFields}
+use Rattle.texts.specs.Good.{GoodBook}
+use Rattle.texts.specs.Conditions.{Fits, shapeFields}
 use Rattle.texts.specs.Proofs.Reader.{termOf}
 use Rattle.texts.specs.Proofs.Tools.{never, never′}
 use Rattle.texts.specs.Proofs.Shapes.{to-shape}

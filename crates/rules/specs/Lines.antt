@@ -10,7 +10,7 @@ use Rattle.texts.specs.Books.{Book}
 use Rattle.texts.specs.RuleText.{Shape, ruleShape, shapeOf, ruleLine}
 use Rattle.texts.specs.Good.{GoodBook}
 use Rattle.table.specs.Layout.{tableBytes}
-use Rattle.table.specs.Testing.{Given}
+use Rattle.table.specs.Given.{Given}
 use Rattle.rule_lines.specs.Judged.{Judged}
 
 -- What a line asks for: its table is that of some good book, and it is shorter than a text may be, since its newline

@@ -14,11 +14,12 @@ use Rattle.texts.specs.Bytes.{Line, lines}
 use Rattle.texts.specs.Books.{Book, noBook, wordRules, printBook}
 use Rattle.texts.specs.Answers.{OfText, fine, accepted, refused, readLines, after}
 use Rattle.texts.specs.RuleText.{Counts, headerLine, ruleLine, counted, readRules}
-use Rattle.texts.specs.Refused.{Counted, RulesRefused}
+use Rattle.texts.specs.Refused.{RulesRefused}
+use Rattle.texts.specs.Tests.{Counted}
 use Rattle.texts.specs.Good.{GoodBook}
 use Rattle.texts.specs.Main as Texts
 use Rattle.table.specs.Layout.{tableBytes}
-use Rattle.table.specs.Testing.{Given}
+use Rattle.table.specs.Given.{Given}
 use Rattle.rules.specs.Answer.{Refusal, refusal, Left, left, leftBy, rulesRead}
 use Rattle.rules.specs.declared.RulesAnswer.{RulesAnswer}
 use Rattle.rules.specs.declared.RulesAnswer.the-variants.{Accepted, Refused}

@@ -14,7 +14,8 @@ use Rattle.texts.specs.Books.{Book, Rule, isRule, add, headOf, lefts, rights}
 use Rattle.texts.specs.Answers.{fine, refuse, _>>=_}
 use Rattle.texts.specs.RuleText.{bigNode, termsOf, fault5, fault6, fault7, fault8, fault9, fault10, judged}
 use Rattle.texts.specs.Coded.{Table, tableOf, template, symbolOf}
-use Rattle.texts.specs.Good.{GoodBook, SoundRule}
+use Rattle.texts.specs.Good.{GoodBook}
+use Rattle.texts.specs.Conditions.{SoundRule}
 use Rattle.texts.specs.Proofs.Reader.{termOf}
 use Rattle.texts.specs.Proofs.Tools.{never, found}
 use Rattle.texts.specs.Proofs.Agents.{agents-tested, symbol-number}

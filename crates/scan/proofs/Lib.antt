@@ -4,5 +4,3 @@ mod Scans
 mod Cuts
 mod Compare
 mod Digits
-mod Steps
-mod Bounds

@@ -1,6 +1,4 @@
 -- What the places mean in the terms of the two texts.
 pub mod Placing
 pub mod Cutting
-pub mod Spelling
-pub mod Sizing
 pub mod Wording

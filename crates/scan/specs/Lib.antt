@@ -2,6 +2,4 @@ pub mod Places
 pub mod Cutting
 pub mod Words
 pub mod Numbers
-pub mod Spelled
-pub mod Sized
 pub mod Laws

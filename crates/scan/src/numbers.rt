@@ -1,7 +1,6 @@
 // Decimal numbers: 1 to 4 digits, no leading zero except 0 itself.
 ghost use mathlib.Core.Path.{_≡_};
 ghost use Rattle.texts.specs.Bytes as Bytes;
-ghost use Rattle.scan.specs.Places.{place};
 ghost use Rattle.scan.specs.Numbers.{valueOf, digitsEnd, Digits};
 use crate::bytes::digit;
 

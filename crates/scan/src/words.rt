@@ -53,7 +53,7 @@ pub fn word_end(field: &[u8], at: usize) -> usize
 }
 
 // The place of the first byte that no identifier has there, or the length.
-pub fn identifier_stop(w: &[u8]) -> usize
+fn identifier_stop(w: &[u8]) -> usize
     ensures { λ r. ⌜ r ≡ wordStop heads (now (w .entry)) ⌝ }
 {
     if w.len() == 0 {
@@ -66,7 +66,7 @@ pub fn identifier_stop(w: &[u8]) -> usize
 }
 
 // The place of the first byte that no symbol has there, or the length.
-pub fn symbol_stop(w: &[u8]) -> usize
+fn symbol_stop(w: &[u8]) -> usize
     ensures { λ r. ⌜ r ≡ wordStop Bytes.letter (now (w .entry)) ⌝ }
 {
     if w.len() == 0 {

@@ -7,13 +7,13 @@ ghost use Rattle.scan_cases.specs.Within.{Within};
 mod made;
 mod print;
 
+use field_tests::spelling::Spelling;
 use libc::STDIN_FILENO;
 use scan::cutting::NextLine;
 use scan::numbers::Number;
-use scan::spelling::Spelling;
 
 fn spelled(field: &[u8]) {
-    match scan::spelling::spelled(field) {
+    match field_tests::spelling::spelled(field) {
         Spelling::Right => print::word(b"right"),
         Spelling::Wrong(at) => print::named(b"wrong", at),
     }
@@ -33,7 +33,7 @@ fn case(name: &[u8], bytes: &[u8]) {
     print::named(b"bad", scan::bytes::first_bad(bytes));
     print::named(b"fields", scan::cutting::field_count(bytes));
     spelled(bytes);
-    print::named(b"big", scan::sizes::first_big(bytes));
+    print::named(b"big", field_tests::sizes::first_big(bytes));
     numbered(bytes);
     print::told(b"identifier", scan::words::identifier(bytes));
     print::told(b"symbol", scan::words::symbol(bytes));

@@ -1,10 +1,5 @@
 pub mod Every
-pub mod Reach
+pub mod Places
 pub mod Sizes
-pub mod Steps
-pub mod Stuck
-pub mod Sums
 pub mod Tables
-pub mod Together
-pub mod Twice
 pub mod Ways

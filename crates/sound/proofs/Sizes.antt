@@ -32,10 +32,9 @@ counts-decide w h =
       seg-size face-at face-max w (omega arith),
     )
 
-pub sized-way : (w : List ℕ) (a b c d : ℕ) (ta tb tc td t u r : Bool) → length w ≡ state-size
+pub sized-way : (w : List ℕ) (a b c d : ℕ) (t u r : Bool) → length w ≡ state-size
     → a ≡ (view w) .waiting .used → b ≡ (view w) .stuck .used → c ≡ (view w) .face .used → d ≡ (view w) .loops
-    → ta ≡ leb a waiting-max → tb ≡ leb b stuck-max → tc ≡ leb c face-max → td ≡ leb d loops-max
-    → t ≡ also tc td → u ≡ also tb t → r ≡ also ta u → r ≡ sized (view w)
+    → t ≡ also (leb c face-max) (leb d loops-max) → u ≡ also (leb b stuck-max) t → r ≡ also (leb a waiting-max) u → r ≡ sized (view w)
 unfolding also
-sized-way w a b c d ta tb tc td t u r h ea eb ec ed fa fb fc fd et eu er =
-    rw (er, eu, et, fa, fb, fc, fd, ea, eb, ec, ed) (sym (counts-decide w h))
+sized-way w a b c d t u r h ea eb ec ed et eu er =
+    rw (er, eu, et, ea, eb, ec, ed) (sym (counts-decide w h))

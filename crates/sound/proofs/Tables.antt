@@ -1,12 +1,11 @@
 -- What a lent table says to the machine.
 use mathlib.Core.Path.{_≡_, refl, ap}
 use mathlib.Core.List.{List, [], _∷_, map}
-use Prim.Native.Nat.{ℕ, zero, suc, _≤_}
+use Prim.Native.Nat.{ℕ, suc, _≤_}
 use native.Mathlib.Omega.{arith}
 use lib.ListN.{length, getD}
 use Rattle.texts.specs.Books.{Agent}
-use Rattle.texts.specs.Coded.{machine}
-use Rattle.texts.specs.TableTest.{arityAt}
+use Rattle.texts.specs.Coded.{machine, arityAt}
 use Rattle.table.specs.Layout.{agentsIn, view}
 use Rattle.parts.specs.Limits.{arity-max}
 use Rattle.model.specs.Sound.{width}

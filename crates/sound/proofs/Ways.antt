@@ -2,13 +2,13 @@
 use mathlib.Core.Path.{_≡_, refl, ap, ap₂, sym, _∙_}
 use mathlib.Core.Bool.{Bool, true, false, not, _&&_, _||_}
 use mathlib.Core.List.{List}
-use Prim.Native.Nat.{ℕ, zero, suc, _+_, _*_, _-_, _<_, _≤_}
+use Prim.Native.Nat.{ℕ, suc, _+_, _*_, _-_, _<_, _≤_}
 use native.Mathlib.Omega.{arith}
 use lib.Dec.{leb, eqb}
 use lib.ListN.{length, getD, List·getD-eq-default}
 use borrow.Author.Tests.{le-leb, lt-leb, ne-eqb}
 use Rattle.parts.specs.Limits.{arity-max, cells-max, names-max, waiting-max, stuck-max, face-max}
-use Rattle.parts.specs.Segments.{seg-length}
+use Rattle.parts.specs.SegmentLaws.{seg-length}
 use Rattle.parts.specs.Sides.{Side, name, cell, side}
 use Rattle.parts.specs.Typed.{typed}
 use Rattle.parts.specs.declared.Side as Typed
@@ -19,7 +19,7 @@ use Rattle.model.specs.State.{St, bound, bond, to}
 use Rattle.model.specs.Table.{Table}
 use Rattle.model.specs.Sound.{width}
 use Rattle.model.specs.Test.{every, declared, zeroed, answered, both-ways}
-use Rattle.texts.specs.TableTest.{arityAt}
+use Rattle.texts.specs.Coded.{arityAt}
 use Rattle.table.specs.Layout.{agentsIn}
 use Rattle.state.specs.Layout.{names-at, view}
 use Rattle.sound.specs.Clauses.{also, named, blanked, blanks, zero-past, answers}
@@ -70,9 +70,6 @@ blank-past T s c k word n v ew en h ev =
     let e : n ≡ width (T .arities) (getD (s .symbols) c 0) = en ∙ ap (width (T .arities)) ew in
     ap (λ v. eqb v 0) ev
     ∙ sym (or-here (width (T .arities) (getD (s .symbols) c 0)) k (eqb (getD (s .arguments) (arity-max * c + k) 0) 0) (rw e at h))
-
-pub argument-inside : (c k : ℕ) → c < cells-max → k < arity-max → arity-max * c + k < arity-max * cells-max
-argument-inside c k h j = omega arith
 
 pub blanks-end : (T : Table) (s : St) (c k : ℕ) (ok : Bool) → Passing (blanked T s c) arity-max ok k → arity-max ≤ k → ok ≡ blanks T s c
 unfolding blanks

@@ -1,14 +1,13 @@
 -- What each pass asks of one number: the parts of the clauses of a sound state, as the model's test has them.
 use mathlib.Core.Bool.{Bool, not, _||_, _&&_}
-use mathlib.Core.List.{List, [], _∷_}
+use mathlib.Core.List.{List}
 use Prim.Native.Nat.{ℕ}
 use lib.Dec.{leb, eqb}
 use lib.ListN.{length, getD}
 use Rattle.parts.specs.Limits.{arity-max}
-use Rattle.model.specs.State.{St, bond, equation}
+use Rattle.model.specs.State.{St, bond}
 use Rattle.model.specs.Table.{Table}
-use Rattle.model.specs.Sound.{mem-of}
-use Rattle.model.specs.Test.{every, blank, answered, unruled}
+use Rattle.model.specs.Test.{every, blank, answered}
 
 -- Both hold. Shut, so that a proof holds it against another by its name.
 unfoldable pub also : Bool → Bool → Bool
@@ -32,7 +31,3 @@ zero-past n l i = not (leb n i) || eqb (getD l i 0) 0
 -- What name x is joined to is joined to x, and is not x.
 unfoldable pub answers : St → ℕ → Bool
 answers s x = answered (s .names) x (bond (getD (s .names) x 0))
-
--- Stuck pair number k from the start is of two cells with no rule.
-unfoldable pub held : Table → St → ℕ → Bool
-held T s k = unruled (T .rules) (mem-of T s) (equation k (s .stuck .words) ∷ [])

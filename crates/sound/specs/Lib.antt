@@ -1,5 +1,2 @@
 pub mod Clauses
 pub mod Lent
-pub mod Totals
-pub mod Verdict
-pub mod Walks

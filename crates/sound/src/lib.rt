@@ -1,7 +1,4 @@
-// The test of a lent state: each clause of a sound state by a function of its own, and all of them together.
+// The clauses of a sound state that a pass over an array decides. The stuck pairs are in the crate stuck_pairs, how often
+// names stand in name_counts, the walk over cells in cell_walk, and all clauses together in lent.
 
-pub mod passes; // passes.rt: the clauses that a pass over an array decides
-pub mod names; // names.rt: how often each name stands in a state
-pub mod pairs; // pairs.rt: the stuck pairs
-pub mod walk; // walk.rt: the walk over cells
-pub mod whole; // whole.rt: all clauses together
+pub mod passes; // passes.rt: a function for each of these clauses

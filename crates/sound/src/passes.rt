@@ -14,12 +14,12 @@ use table::reading::symbol_count;
 ghost use mathlib.Core.Path.{_≡_};
 ghost use mathlib.Core.Bool.{_&&_, not};
 ghost use Prim.Native.Nat.{_+_, _*_, _<_, _≤_};
-ghost use lib.Dec.{leb, eqb};
+ghost use lib.Dec.{eqb};
 ghost use lib.ListN.{length, getD};
-ghost use Rattle.parts.specs.Limits.{arity-max, cells-max, names-max, loops-max};
+ghost use Rattle.parts.specs.Limits.{arity-max, cells-max, names-max};
 ghost use Rattle.parts.specs.Sides.{name};
 ghost use Rattle.model.specs.State.{bound};
-ghost use Rattle.model.specs.Sound.{width};
+ghost use Rattle.model.specs.Sound.{width, live};
 ghost use Rattle.model.specs.Test.{every, zeroed, declared, both-ways, sized};
 ghost use Rattle.state.specs.Layout.{view};
 ghost use Rattle.state.specs.Places.{size, words};
@@ -42,27 +42,15 @@ fn len_of(s: &[u16]) -> usize
     s.len()
 }
 
-fn at_most(n: u16, most: usize) -> bool
-    ensures { λ r. ⌜ r ≡ leb n most ⌝ }
-{
-    (n as usize) <= most
-}
-
-fn few_loops(n: u32) -> bool
-    ensures { λ r. ⌜ r ≡ leb n loops-max ⌝ }
-{
-    n <= Limits::LOOPS
-}
-
 // "all sizes hold": the lengths do, so that the counts are left to be tested.
 pub fn sized(state: &[u16; Limits::STATE]) -> bool
     ensures { λ r. ⌜ r ≡ sized (view (now (state .entry))) ⌝ }
 {
     len_of(state);
-    let waits = at_most(count(state, Pile::Waits), Limits::WAITING);
-    let stucks = at_most(count(state, Pile::Stucks), Limits::STUCK);
-    let faces = at_most(count(state, Pile::Faces), Limits::FACE);
-    let few = few_loops(loops(state));
+    let waits = (count(state, Pile::Waits) as usize) <= Limits::WAITING;
+    let stucks = (count(state, Pile::Stucks) as usize) <= Limits::STUCK;
+    let faces = (count(state, Pile::Faces) as usize) <= Limits::FACE;
+    let few = loops(state) <= Limits::LOOPS;
     both(waits, both(stucks, both(faces, few)))
 }
 
@@ -95,6 +83,17 @@ pub fn width_of(table: &[u8; Limits::TABLE], word: u16) -> u8
         return 0;
     }
     arity_of(table, SymbolNo(word - 1))
+}
+
+// One for a word that is not zero, as that of a cell or a name in use, and none else.
+pub fn live(state: &[u16; Limits::STATE], p: Part, i: usize) -> usize
+    requires { ⌜ i < size p ⌝ }
+    ensures { λ r. ⌜ (r ≡ live (words p (view (now (state .entry)))) i) × (r ≤ 1) ⌝ }
+{
+    if read(state, p, i) == 0 {
+        return 0;
+    }
+    1
 }
 
 // "unused places of every array and list are zero": the arguments past the arity of each cell.

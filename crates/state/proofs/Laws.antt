@@ -9,7 +9,7 @@ use lib.Seq.{getD-set-same}
 use mir.Syntax.{w64}
 use mir.Val.{Fits}
 use Rattle.parts.specs.Limits.{arity-max, cells-max, names-max, waiting-max, stuck-max, face-max}
-use Rattle.parts.specs.Segments.{seg-get, seg-set, seg-behind, seg-count, seg-before, seg-length, count-seg, count-count}
+use Rattle.parts.specs.SegmentLaws.{seg-get, seg-set, seg-behind, seg-count, seg-before, seg-length, count-seg, count-count}
 use Rattle.state.specs.Layout.{loops-at, symbols-at, arguments-at, names-at, waiting-at, stuck-at, face-at, state-size, view}
 use Rattle.state.specs.Places.{begins, size, words, stored, counted-at, pile, counted, looped}
 use Rattle.state.specs.declared.Part.{Part}

@@ -5,7 +5,7 @@ use mathlib.Core.List.{List}
 use native.Mathlib.Omega.{arith}
 use lib.ListN.{length, getD}
 use Rattle.parts.specs.Limits.{arity-max, cells-max, names-max, waiting-max, stuck-max, face-max}
-use Rattle.parts.specs.Segments.{Agree, agree-none, agree-part, agree-word, agree-all}
+use Rattle.parts.specs.SegmentLaws.{Agree, agree-none, agree-part, agree-word, agree-all}
 use Rattle.state.specs.Layout.{waits-at, stucks-at, faces-at, loops-at, symbols-at, arguments-at, names-at, waiting-at, stuck-at, face-at, state-size, view}
 
 -- Every word fits (past the end stands 0).

@@ -16,9 +16,7 @@ ghost use Rattle.model.specs.State.{equation, empty, used};
 ghost use Rattle.state.specs.Moves.{RoomOn, put-on, Pullable, out-of-waiting, down, cut, freed, free-from};
 
 // Where each part begins. The counts stand first.
-pub struct Layout {
-    pub unused: bool,
-}
+pub struct Layout;
 
 impl Layout {
     pub const WAITS_AT: usize = 0;
@@ -57,6 +55,11 @@ pub enum Pile {
     Stucks,
     Faces,
 }
+
+// A lent state has as many words as the specs page says.
+pub fn figures()
+    ensures { λ _. do ⌜ (← ⟦Limits::STATE⟧ .entry) ≡ state-size ⌝ }
+{}
 
 // A state with nothing in it.
 pub fn empty() -> [u16; Limits::STATE]

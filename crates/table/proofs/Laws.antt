@@ -1,24 +1,24 @@
 -- What the readers of a lent table find.
 use Prim.Native.Nat.{ℕ, zero, suc, _+_, _*_, _-_, _<_, _≤_, pred}
 use mathlib.Core.Path.{_≡_, refl, sym, ap, ap₂, _∙_}
-use mathlib.Core.List.{List, [], _∷_, _++_}
+use mathlib.Core.List.{List}
 use native.Mathlib.Omega.{arith}
-use native.Mathlib.Numerals.{add-one}
-use lib.ListN.{length, getD, take, drop, replicate, length-take, length-drop, length-replicate}
-use lib.Seq.{sets, drop-cons, take-add, drop-drop}
-use Rattle.parts.specs.Limits.{identifier-max, symbols-max, arity-max, rules-max, rule-equations-max, rule-cells-max, agent-size, node-size, rule-size, table-size}
-use Rattle.parts.specs.Segments.{seg, seg-get}
+use lib.ListN.{length, getD, take, drop, length-take, length-drop}
+use Rattle.parts.specs.Limits.{identifier-max, symbols-max, rules-max, agent-size, rule-size, table-size}
+use Rattle.parts.specs.Segments.{seg}
+use Rattle.parts.specs.SegmentLaws.{seg-get}
 use Rattle.model.specs.Table.{Found, none, straight, turned, find}
 use Rattle.texts.specs.Books.{Agent}
-use Rattle.texts.specs.Coded.{Table}
-use Rattle.texts.specs.TableTest.{arityAt}
+use Rattle.texts.specs.Coded.{Table, arityAt}
+use Rattle.texts.specs.Bytes.{any}
+use Rattle.texts.specs.TableTest.{pairTest}
+use mathlib.Core.Bool.{true, false}
 use Rattle.table.specs.Lists.{tab}
-use Rattle.table.specs.Layout.{symbols-at, agents-at, pairs-at, rules-at, sides-in, nodes-in, agentRow, ruleRow, agentOf, agentsIn, foundBytes, bytesOf}
-use Rattle.table.specs.Rule.{row, matched}
+use Rattle.table.specs.Layout.{symbols-at, agents-at, pairs-at, rules-at, agentRow, ruleRow, agentOf, agentsIn, foundBytes, bytesOf}
+use Rattle.table.specs.Rule.{matched}
 use Rattle.table.specs.Laws.Lists.{length-tab}
+use Rattle.table.specs.Laws.Finding.{isFound, found-any}
 use Rattle.table.specs.Laws.Whole.{pair-at}
-use Rattle.table.specs.Laws.Changes.{sets-whole}
-use Rattle.table.specs.declared.Rule.{Rule}
 use Rattle.table.specs.declared.Match.{Match}
 use Rattle.table.specs.declared.Match.the-variants.{Nothing, Straight, Turned}
 
@@ -27,10 +27,6 @@ agent-get w s j h = sym (seg-get (agents-at + agent-size * s) agent-size w j h)
 
 pub rule-get : (w : List ℕ) (k j : ℕ) → j < rule-size → getD w (rules-at + rule-size * k + j) 0 ≡ getD (ruleRow w k) j 0
 rule-get w k j h = sym (seg-get (rules-at + rule-size * k) rule-size w j h)
-
-pub symbols-are : (w : List ℕ) → getD w 0 0 ≡ length (agentsIn w)
-unfolding agentsIn
-symbols-are w = sym (length-tab (getD w symbols-at 0) (λ k. agentOf (agentRow w k)))
 
 arity-tab : (n : ℕ) (f : ℕ → Agent) (s : ℕ) → s < n → arityAt (tab n f) s ≡ (f s) .arity
 unfolding arityAt tab
@@ -55,63 +51,6 @@ unfolding agentsIn agentOf
 arity-is w n s b r e h eb er =
     er ∙ (ap pred eb
     ∙ sym (arity-tab (getD w symbols-at 0) (λ k. agentOf (agentRow w k)) s (omega (arith, e, length-tab (getD w symbols-at 0) (λ k. agentOf (agentRow w k))))))
-
--- A part of a list, copied over a list of its length.
-pub cut : (w l : List ℕ) (a e : ℕ) → e ≤ length w → length l ≡ e - a → sets l 0 (take (e - a) (drop a w)) ≡ take (e - a) (drop a w)
-cut w l a e h q = sets-whole l (take (e - a) (drop a w)) (q ∙ sym (length-take (e - a) (drop a w) ∙ omega (arith, length-drop a w)))
-
--- The row of a rule, part by part.
-rule-parts : (w : List ℕ) (at : ℕ) → at + rule-size ≤ length w
-    → seg at rule-size w
-    ≡ getD w at 0 ∷ getD w (at + 1) 0 ∷ getD w (at + 2) 0 ∷ getD w (at + 3) 0 ∷ getD w (at + 4) 0
-    ∷ (take (2 * rule-equations-max) (drop (at + sides-in) w) ++ take (node-size * rule-cells-max) (drop (at + nodes-in) w))
-unfolding seg
-rule-parts w at h =
-    let e : (k : ℕ) → at + k < length w → drop (at + k) w ≡ getD w (at + k) 0 ∷ drop (at + suc k) w =
-    λ k q. drop-cons w (at + k) 0 q ∙ (let z : suc (at + k) ≡ at + suc k = omega arith in rw z) in
-    let z : at ≡ at + 0 = omega arith in
-    let y : at + nodes-in ≡ at + sides-in + 2 * rule-equations-max = omega arith in
-    ap (λ n. take rule-size (drop n w)) z
-    ∙ (ap (take rule-size) (e 0 (omega arith) ∙ ap (λ l. getD w (at + 0) 0 ∷ l) (e 1 (omega arith) ∙ ap (λ l. getD w (at + 1) 0 ∷ l) (e 2 (omega arith)
-    ∙ ap (λ l. getD w (at + 2) 0 ∷ l) (e 3 (omega arith) ∙ ap (λ l. getD w (at + 3) 0 ∷ l) (e 4 (omega arith))))))
-    ∙ (ap (λ l. getD w (at + 0) 0 ∷ getD w (at + 1) 0 ∷ getD w (at + 2) 0 ∷ getD w (at + 3) 0 ∷ getD w (at + 4) 0 ∷ l)
-    (take-add (2 * rule-equations-max) (node-size * rule-cells-max) (drop (at + sides-in) w)
-    ∙ ap (λ l. take (2 * rule-equations-max) (drop (at + sides-in) w) ++ take (node-size * rule-cells-max) l)
-    (drop-drop (2 * rule-equations-max) (at + sides-in) w ∙ ap (λ n. drop n w) (sym y)))
-    ∙ ap (λ n. getD w n 0 ∷ getD w (at + 1) 0 ∷ getD w (at + 2) 0 ∷ getD w (at + 3) 0 ∷ getD w (at + 4) 0
-    ∷ (take (2 * rule-equations-max) (drop (at + sides-in) w) ++ take (node-size * rule-cells-max) (drop (at + nodes-in) w))) (sym z)))
-
--- The rule by value: what was cut out for its sides and its cells.
-pub rule-whole : (w : List ℕ) (k : ℕ) (p q s n : List ℕ) → length w ≡ table-size → k < rules-max
-    → p ≡ take (rules-at + rule-size * k + nodes-in - (rules-at + rule-size * k + sides-in)) (drop (rules-at + rule-size * k + sides-in) w)
-    → q ≡ take (rules-at + rule-size * k + rule-size - (rules-at + rule-size * k + nodes-in)) (drop (rules-at + rule-size * k + nodes-in) w)
-    → s ≡ sets (replicate (2 * rule-equations-max) 0) 0 p
-    → n ≡ sets (replicate (node-size * rule-cells-max) 0) 0 q
-    → (getD w (rules-at + rule-size * k) 0
-    ∷ getD w (rules-at + rule-size * k + 1) 0
-    ∷ getD w (rules-at + rule-size * k + 2) 0
-    ∷ getD w (rules-at + rule-size * k + 3) 0
-    ∷ getD w (rules-at + rule-size * k + 4) 0
-    ∷ (s ++ n)) ≡ ruleRow w k
-rule-whole w k p q s n h hk ep eq es en =
-    let at = rules-at + rule-size * k in
-    let d₁ : rules-at + rule-size * k + nodes-in - (rules-at + rule-size * k + sides-in) ≡ 2 * rule-equations-max = omega arith in
-    let d₂ : rules-at + rule-size * k + rule-size - (rules-at + rule-size * k + nodes-in) ≡ node-size * rule-cells-max = omega arith in
-    let s′ : s ≡ take (2 * rule-equations-max) (drop (rules-at + rule-size * k + sides-in) w) =
-    es ∙ (ap (sets (replicate (2 * rule-equations-max) 0) 0) ep
-    ∙ (cut w (replicate (2 * rule-equations-max) 0) (rules-at + rule-size * k + sides-in) (rules-at + rule-size * k + nodes-in) (omega arith) (length-replicate {A = ℕ} (2 * rule-equations-max) 0 ∙ sym d₁)
-    ∙ ap (λ m. take m (drop (rules-at + rule-size * k + sides-in) w)) d₁)) in
-    let n′ : n ≡ take (node-size * rule-cells-max) (drop (rules-at + rule-size * k + nodes-in) w) =
-    en ∙ (ap (sets (replicate (node-size * rule-cells-max) 0) 0) eq
-    ∙ (cut w (replicate (node-size * rule-cells-max) 0) (rules-at + rule-size * k + nodes-in) (rules-at + rule-size * k + rule-size) (omega arith) (length-replicate {A = ℕ} (node-size * rule-cells-max) 0 ∙ sym d₂)
-    ∙ ap (λ m. take m (drop (rules-at + rule-size * k + nodes-in) w)) d₂)) in
-    ap₂ (λ u v. getD w (rules-at + rule-size * k) 0
-    ∷ getD w (rules-at + rule-size * k + 1) 0
-    ∷ getD w (rules-at + rule-size * k + 2) 0
-    ∷ getD w (rules-at + rule-size * k + 3) 0
-    ∷ getD w (rules-at + rule-size * k + 4) 0
-    ∷ (u ++ v)) s′ n′
-    ∙ sym (rule-parts w (rules-at + rule-size * k) (omega arith))
 
 -- What the index of pairs says is what is found.
 way-none : (f : Found) → getD (foundBytes f) 1 0 ≡ 0 → Nothing ≡ matched f
@@ -153,12 +92,42 @@ module _ (w : List ℕ) (a b : ℕ) (ha : a < symbols-max) (hb : b < symbols-max
       ap Turned (m ∙ (ap (λ l. getD l (pairs-at + (2 * (symbols-max * a + b) + 0)) 0) e ∙ p))
       ∙ way-turned (find (t .rules) 0 a b) (λ z. h (v ∙ (q ∙ z))) (λ z. k (v ∙ (q ∙ z)))
 
--- A part that was cut out fits where it is copied.
-pub sides-fit : (w p : List ℕ) (b : ℕ) → p ≡ take (b + nodes-in - (b + sides-in)) (drop (b + sides-in) w) → 0 + length p ≤ 2 * rule-equations-max
-sides-fit w p b e = omega (arith, ap length e, length-take (b + nodes-in - (b + sides-in)) (drop (b + sides-in) w))
-
-pub nodes-fit : (w p : List ℕ) (b : ℕ) → p ≡ take (b + rule-size - (b + nodes-in)) (drop (b + nodes-in) w) → 0 + length p ≤ node-size * rule-cells-max
-nodes-fit w p b e = omega (arith, ap length e, length-take (b + rule-size - (b + nodes-in)) (drop (b + nodes-in) w))
-
 pub less-way : (a b r x : ℕ) → a ≡ x → b ≡ pred a → r ≡ b → r ≡ pred x
 less-way a b r x ea eb er = er ∙ (eb ∙ ap pred ea)
+
+-- The row of a rule, cut out.
+pub row-cut : (w p : List ℕ) (k : ℕ) → length w ≡ table-size → k < rules-max
+    → p ≡ take (rules-at + rule-size * k + rule-size - (rules-at + rule-size * k)) (drop (rules-at + rule-size * k) w) → (p ≡ ruleRow w k) × (length p ≡ rule-size)
+unfolding seg
+row-cut w p k h q e =
+    let z : rules-at + rule-size * k + rule-size - (rules-at + rule-size * k) ≡ rule-size = omega arith in
+    let r : p ≡ take rule-size (drop (rules-at + rule-size * k) w) = e ∙ ap (λ n. take n (drop (rules-at + rule-size * k) w)) z in
+    (r, ap length r ∙ (length-take rule-size (drop (rules-at + rule-size * k) w) ∙ omega (arith, length-drop (rules-at + rule-size * k) w)))
+
+-- A look-up says whether the pair has a rule; c and d are the symbols in another width.
+found-not : (f : Found) → Nothing ≡ matched f → false ≡ isFound f
+found-not none e = refl
+found-not (straight i e) h = absurd (let z : _≡_ {A = ℕ} 0 1 = cc in omega arith)
+found-not (turned i e) h = absurd (let z : _≡_ {A = ℕ} 0 1 = cc in omega arith)
+
+found-so : (f : Found) → (Nothing ≡ matched f → ⊥) → true ≡ isFound f
+found-so none h = absurd (h refl)
+found-so (straight i e) h = refl
+found-so (turned i e) h = refl
+
+module _ (w : List ℕ) (a b c d : ℕ) (m : Match) (ec : c ≡ a) (ed : d ≡ b) (look : (t : Table) → w ≡ bytesOf t → m ≡ matched (find (t .rules) 0 c d)) where
+  looked : (t : Table) → w ≡ bytesOf t → m ≡ matched (find (t .rules) 0 a b)
+  looked t e = look t e ∙ ap₂ (λ x y. matched (find (t .rules) 0 x y)) ec ed
+
+  pub has-none : m ≡ Nothing → (t : Table) → w ≡ bytesOf t → false ≡ any (pairTest a b) (t .rules)
+  has-none q t e = found-not (find (t .rules) 0 a b) (sym q ∙ looked t e) ∙ sym (found-any (t .rules) 0 a b)
+
+  pub has-straight : (k : ℕ) → m ≡ Straight k → (t : Table) → w ≡ bytesOf t → true ≡ any (pairTest a b) (t .rules)
+  has-straight k q t e =
+      found-so (find (t .rules) 0 a b) (λ h. let p : Nothing ≡ Straight k = h ∙ (sym (looked t e) ∙ q) in let z : _≡_ {A = ℕ} 0 1 = cc in absurd (omega arith))
+      ∙ sym (found-any (t .rules) 0 a b)
+
+  pub has-turned : (k : ℕ) → m ≡ Turned k → (t : Table) → w ≡ bytesOf t → true ≡ any (pairTest a b) (t .rules)
+  has-turned k q t e =
+      found-so (find (t .rules) 0 a b) (λ h. let p : Nothing ≡ Turned k = h ∙ (sym (looked t e) ∙ q) in let z : _≡_ {A = ℕ} 0 1 = cc in absurd (omega arith))
+      ∙ sym (found-any (t .rules) 0 a b)

@@ -1,10 +1,2 @@
 pub mod Storing
 pub mod Laws
-pub mod Stores
-pub mod Passing
-pub mod Agreed
-pub mod Coding
-pub mod Turns
-pub mod Walks
-pub mod Verdict
-pub mod Ruling

@@ -4,14 +4,11 @@ use mathlib.Core.List.{List, [], _∷_, _++_, map}
 use lib.ListN.{length, getD, take}
 use Rattle.parts.specs.Limits.{identifier-max, symbols-max, arity-max, rules-max, rule-equations-max, rule-cells-max, agent-size, node-size, rule-size}
 use Rattle.parts.specs.Segments.{seg}
-use Rattle.parts.specs.Sides.{Pair, _:=_}
-use Rattle.model.specs.Table.{Cell}
-use Rattle.parts.specs.Sides.{code, side}
-use Rattle.model.specs.Table.{Entry, Found, none, straight, turned, find}
+use Rattle.parts.specs.Sides.{Pair, _:=_, code, side}
+use Rattle.model.specs.Table.{Cell, Entry, Found, none, straight, turned, find}
 use Rattle.texts.specs.Bytes.{Word}
 use Rattle.texts.specs.Books.{Agent, Book}
-use Rattle.texts.specs.Coded.{Table, tableOf}
-use Rattle.texts.specs.TableTest.{arityAt, unpaired}
+use Rattle.texts.specs.Coded.{Table, tableOf, arityAt, unpaired}
 use Rattle.table.specs.Lists.{tab, blocks, filled, rowOf}
 
 -- The counts stand first: that of the symbols, a byte, and that of the rules, two, the low one first.

@@ -2,5 +2,5 @@ pub mod Lists
 pub mod Layout
 pub mod Rule
 pub mod Put
-pub mod Testing
+pub mod Given
 pub mod Laws

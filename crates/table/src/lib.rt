@@ -1,18 +1,11 @@
-// The lent rule table: one array of bytes, its places, rules by value and in place, writers, and the test of a table.
+// The lent rule table: one array of bytes, its places, what stands in it, and the rule of a pair of symbols.
 use parts::Limits;
 
 pub mod reading; // reading.rt: what stands in a table
-pub mod writing; // writing.rt: an empty table, one agent more, one rule more
-pub mod agents; // agents.rt: the test of the agents
-pub mod codes; // codes.rt: the codes of a rule, gathered and counted
-pub mod walking; // walking.rt: cells and new names in reading order
-pub mod selves; // selves.rt: a rule of a symbol with itself
-pub mod sound; // sound.rt: the test of a rule and of a table
+pub mod writing; // writing.rt: an empty table
 
 // Where each part begins. The counts stand first.
-pub struct Layout {
-    pub unused: bool,
-}
+pub struct Layout;
 
 impl Layout {
     pub const SYMBOLS_AT: usize = 0;

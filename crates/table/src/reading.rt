@@ -1,19 +1,19 @@
 // What stands in a lent table: its counts, its agents, its rules by value and number by number, and the rule of a pair.
 use crate::Layout;
 use crate::Match;
-use crate::Rule;
 use parts::Limits;
 use parts::SymbolNo;
 ghost use mathlib.Core.Path.{_≡_};
-ghost use Prim.Native.Nat.{ℕ, _+_, _*_, _-_, _<_, _≤_, pred};
+ghost use Prim.Native.Nat.{_+_, _*_, _-_, _<_, _≤_, pred};
 ghost use lib.ListN.{length, getD, take, drop};
 ghost use lib.Seq.{sets};
-ghost use Rattle.parts.specs.Limits.{identifier-max, symbols-max, arity-max, rules-max, rule-equations-max, rule-cells-max, agent-size, node-size, rule-size, table-size};
+ghost use Rattle.parts.specs.Limits.{symbols-max, arity-max, rules-max, rule-equations-max, rule-cells-max, agent-size, node-size, rule-size};
 ghost use Rattle.model.specs.Table.{find};
-ghost use Rattle.texts.specs.Coded.{Table};
-ghost use Rattle.texts.specs.TableTest.{arityAt};
+ghost use Rattle.texts.specs.Coded.{Table, arityAt};
+ghost use Rattle.texts.specs.Bytes.{any};
+ghost use Rattle.texts.specs.TableTest.{pairTest};
 ghost use Rattle.table.specs.Layout.{sides-in, nodes-in, agentRow, ruleRow, symbolOf, rulesIn, agentsIn, bytesOf};
-ghost use Rattle.table.specs.Rule.{row, matched};
+ghost use Rattle.table.specs.Rule.{matched};
 
 // The length of a lent table, which a proof learns so.
 pub fn len_of(s: &[u8]) -> usize
@@ -92,8 +92,18 @@ pub fn arity_of(table: &[u8; Limits::TABLE], s: SymbolNo) -> u8
     less_one(agent_byte(table, k as usize, Limits::IDENTIFIER))
 }
 
+// The row of a rule.
+pub fn rule_part(table: &[u8; Limits::TABLE], k: u16) -> &[u8]
+    requires { ⌜ k < rules-max ⌝ }
+    ensures { λ r. ⌜ (now r ≡ ruleRow (now (table .entry)) k) × (length (now r) ≡ rule-size) ⌝ }
+{
+    len_of(table);
+    let at = Layout::RULES_AT + Limits::RULE * (k as usize);
+    part(table, at, at + Limits::RULE)
+}
+
 // Byte j of the row of a rule.
-pub fn rule_byte(table: &[u8; Limits::TABLE], k: u16, j: usize) -> u8
+fn rule_byte(table: &[u8; Limits::TABLE], k: u16, j: usize) -> u8
     requires { ⌜ (k < rules-max) × (j < rule-size) ⌝ }
     ensures { λ r. ⌜ r ≡ getD (ruleRow (now (table .entry)) k) j 0 ⌝ }
 {
@@ -107,21 +117,7 @@ pub fn symbol_no(x: u8) -> SymbolNo
     SymbolNo(x as u16)
 }
 
-// The two symbols of a rule, and how many equations, cells and new names it has.
-pub fn left_symbol(table: &[u8; Limits::TABLE], k: u16) -> SymbolNo
-    requires { ⌜ k < rules-max ⌝ }
-    ensures { λ r. ⌜ r .0 ≡ getD (ruleRow (now (table .entry)) k) 0 0 ⌝ }
-{
-    symbol_no(rule_byte(table, k, 0))
-}
-
-pub fn right_symbol(table: &[u8; Limits::TABLE], k: u16) -> SymbolNo
-    requires { ⌜ k < rules-max ⌝ }
-    ensures { λ r. ⌜ r .0 ≡ getD (ruleRow (now (table .entry)) k) 1 0 ⌝ }
-{
-    symbol_no(rule_byte(table, k, 1))
-}
-
+// How many equations, cells and new names a rule has.
 pub fn equation_count(table: &[u8; Limits::TABLE], k: u16) -> u8
     requires { ⌜ k < rules-max ⌝ }
     ensures { λ r. ⌜ r ≡ getD (ruleRow (now (table .entry)) k) 2 0 ⌝ }
@@ -167,41 +163,6 @@ pub fn node_argument(table: &[u8; Limits::TABLE], k: u16, c: usize, j: usize) ->
     rule_byte(table, k, Layout::NODES_IN + (Limits::NODE * c + (1 + j)))
 }
 
-// A rule by value.
-pub fn rule_at(table: &[u8; Limits::TABLE], k: u16) -> Rule
-    requires { ⌜ k < rules-max ⌝ }
-    ensures { λ r. ⌜ row r ≡ ruleRow (now (table .entry)) k ⌝ }
-{
-    len_of(table);
-    let at = Layout::RULES_AT + Limits::RULE * (k as usize);
-    let mut sides = [0u8; 2 * Limits::RULE_EQUATIONS];
-    copy_in(
-        &mut sides,
-        0,
-        part(table, at + Layout::SIDES_IN, at + Layout::NODES_IN),
-    );
-    let mut nodes = [0u8; Limits::NODE * Limits::RULE_CELLS];
-    copy_in(
-        &mut nodes,
-        0,
-        part(table, at + Layout::NODES_IN, at + Limits::RULE),
-    );
-    let left = table[at];
-    let right = table[at + 1];
-    let equations = table[at + 2];
-    let cells = table[at + 3];
-    let names = table[at + 4];
-    Rule {
-        left: left,
-        right: right,
-        equations: equations,
-        cells: cells,
-        names: names,
-        sides: sides,
-        nodes: nodes,
-    }
-}
-
 pub fn number_of(x: u8) -> u16
     ensures { λ r. ⌜ r ≡ x ⌝ }
 {
@@ -223,4 +184,16 @@ pub fn look_up(table: &[u8; Limits::TABLE], a: SymbolNo, b: SymbolNo) -> Match
         return Match::Straight(number);
     }
     Match::Turned(number)
+}
+
+// Whether a pair of symbols has a rule, whichever is written first.
+pub fn has_rule(table: &[u8; Limits::TABLE], a: u8, b: u8) -> bool
+    requires { ⌜ (a < symbols-max) × (b < symbols-max) ⌝ }
+    ensures { λ r. ⌜ ((t : Table) → now (table .entry) ≡ bytesOf t → r ≡ any (pairTest a b) (t .rules)) ⌝ }
+{
+    match look_up(table, symbol_no(a), symbol_no(b)) {
+        Match::Nothing => false,
+        Match::Straight(_) => true,
+        Match::Turned(_) => true,
+    }
 }

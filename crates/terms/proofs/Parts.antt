@@ -8,7 +8,7 @@ use lib.Seq.{getD-set-same}
 use mir.Syntax.{w64}
 use mir.Val.{Fits}
 use Rattle.parts.specs.Limits.{arity-max, net-cells-max, net-names-max}
-use Rattle.parts.specs.Segments.{seg-get, seg-set, seg-behind, seg-count, seg-before, count-seg, count-count}
+use Rattle.parts.specs.SegmentLaws.{seg-get, seg-set, seg-behind, seg-count, seg-before, count-seg, count-count}
 use Rattle.terms.specs.Layout.{cells-at, names-at, symbols-at, arguments-at, places-at, sheet-size}
 use Rattle.terms.specs.Sheet.{Sheet, view, begins, size, words, stored, counted-cells, counted-names, argued, opened, entered}
 use Rattle.terms.specs.declared.sheet.Part.{Part}

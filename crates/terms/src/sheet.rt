@@ -10,9 +10,7 @@ ghost use Rattle.parts.specs.Limits.{net-cells-max, net-names-max, arity-max, s
 ghost use Rattle.terms.specs.Sheet.{view, begins, size, words, stored, counted-cells, counted-names, argued, opened, entered};
 
 // Sizes that follow from those of `Limits`: of a lent list of agents and of a lent sheet.
-pub struct Sheet {
-    pub unused: bool,
-}
+pub struct Sheet;
 
 impl Sheet {
     pub const AGENTS: usize = Limits::SYMBOLS * Limits::AGENT;

@@ -45,7 +45,7 @@ pub fn part(text: &[u8], at: usize, n: usize) -> &[u8]
 }
 
 // Whether the agent whose row begins at a place is spelled so.
-pub fn agent_is(agents: &[u8], at: usize, word: &[u8]) -> bool
+fn agent_is(agents: &[u8], at: usize, word: &[u8]) -> bool
     ensures { λ r. ⌜ r ≡ Bytes.same (now (word .entry)) (spellingAt at (now (agents .entry))) ⌝ }
 {
     let row = part(agents, at, Limits::IDENTIFIER);
@@ -84,7 +84,7 @@ pub fn find_agent(agents: &[u8], word: &[u8]) -> Found
 }
 
 // Whether name k of the sheet is spelled so.
-pub fn name_is(text: &[u8], sheet: &[u16; Sheet::SIZE], k: u16, word: &[u8]) -> bool
+fn name_is(text: &[u8], sheet: &[u16; Sheet::SIZE], k: u16, word: &[u8]) -> bool
     requires { ⌜ k < net-names-max ⌝ }
     ensures { λ r. ⌜ r ≡ Bytes.same (now (word .entry)) (entry (now (text .entry)) ((view (now (sheet .entry))) .places) k) ⌝ }
 {

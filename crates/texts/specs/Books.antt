@@ -85,7 +85,7 @@ newNames ags r = different (keep (λ w. not (among w (namesOf ags (lefts r)))) (
 unfoldable pub netTerms : Net → List Term
 netTerms n = n .face ++ sides (n .equations)
 
--- Writing.
+-- Writing. The words of the records are told as bytes; Words.antt spells them.
 abbrev pub wordRules : Word
 wordRules = 114 ∷ 117 ∷ 108 ∷ 101 ∷ 115 ∷ []
 
@@ -139,9 +139,13 @@ add b (isRule r) = record { agents = b .agents; rules = b .rules ++ (r ∷ []) }
 abbrev pub noBook : Book
 noBook = record { agents = []; rules = [] }
 
+-- "Rule text: `rules`, agent count, rule count; then `agent`, symbol, arity; then `rule`, two left agents, and the
+-- right-hand equations as pairs of fields (none is allowed)."
 unfoldable pub printBook : Book → List ℕ
 printBook b = textOf (writeHeader wordRules (length (b .agents)) (length (b .rules)) ∷ map writeRecord (recordsOf b))
 
+-- "Net text: `net`, interface count, equation count; then one `face` with its terms (none is allowed); then `eq` with
+-- two terms."
 unfoldable pub printNet : Net → List ℕ
 printNet n =
     textOf

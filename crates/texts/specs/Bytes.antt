@@ -1,7 +1,7 @@
--- Bytes, lines, fields and numbers of a text.
+-- Bytes, lines, fields and numbers of a text. A byte is written as its number; Words.antt says which it is.
 use Prim.Native.Nat.{ℕ, suc, _+_, _*_, _-_, _/_, _%_}
 use mathlib.Core.Bool.{Bool, true, false, cond, not, _&&_, _||_}
-use mathlib.Core.List.{List, [], _∷_, _++_}
+use mathlib.Core.List.{List, [], _∷_, _++_, List·Memᴰ}
 use mathlib.Core.Option.{Option, none, some}
 use lib.ListN.{length}
 use lib.Dec.{ltb, leb, eqb}
@@ -23,6 +23,10 @@ module _ {A : Type 0} where
   unfoldable pub keep : (A → Bool) → List A → List A
   keep f [] = []
   keep f (x ∷ xs) = cond (f x) (x ∷ keep f xs) (keep f xs)
+
+  -- x is one of a list
+  abbrev pub In : A → List A → Type 0
+  In x xs = List·Memᴰ x xs
 
 -- Byte for byte.
 unfoldable pub same : Word → Word → Bool
@@ -103,7 +107,8 @@ value n (d ∷ ds) = value (n * 10 + (d - 48)) ds
 unfoldable pub numberOf : Word → Option ℕ
 numberOf s = cond (isNumber s) (some (value 0 s)) none
 
--- How a number up to 9999 is written.
+-- How a number up to 9999 is written; `numberOf` gives it back, and finds no number in any other field (`number-means`,
+-- Main.antt).
 unfoldable pub decimal : ℕ → Word
 decimal n =
     cond (ltb n 10) ((48 + n) ∷ [])

@@ -1,5 +1,5 @@
 -- The numbers that the machine holds for a book and for a net: in reading order, outer before inner, left before right.
-use Prim.Native.Nat.{ℕ, suc, _+_, _*_}
+use Prim.Native.Nat.{ℕ, zero, suc, _+_, _*_}
 use mathlib.Core.Bool.{cond}
 use mathlib.Core.List.{List, [], _∷_, _++_, map}
 use lib.ListN.{length}
@@ -16,6 +16,12 @@ use Rattle.texts.specs.Books.{Agent, Rule, Book, Net, declared, cellsOf,
 unfoldable pub symbolOf : List Agent → Word → ℕ
 symbolOf ags w = indexOf w (map (λ a. a .symbol) ags)
 
+-- The arity of the symbol with a number.
+unfoldable pub arityAt : List Agent → ℕ → ℕ
+arityAt [] n = 0
+arityAt (a ∷ ags) zero = a .arity
+arityAt (a ∷ ags) (suc n) = arityAt ags n
+
 unfoldable pub packed : List Term → Terms
 packed [] = nil
 packed (t ∷ ts) = cons t (packed ts)
@@ -25,6 +31,11 @@ unfoldable pub twos : List Side → List Pair
 twos [] = []
 twos (s ∷ []) = []
 twos (s ∷ t ∷ cs) = (s := t) ∷ twos cs
+
+-- And as they were, one by one.
+unfoldable pub unpaired : List Pair → List Side
+unpaired [] = []
+unpaired ((s := t) ∷ ps) = s ∷ t ∷ unpaired ps
 
 -- The cells of a term.
 unfoldable pub size : List Agent → Term → ℕ

@@ -1,7 +1,6 @@
 -- Texts and their answers, computed by the checker: one for each refusal number at least, and document 01's listing.
 use Prim.Native.Nat.{ℕ}
-use Prim.Native.Char.{code}
-use Prim.Native.String.{String, [] as []ᵀ, _∷_ as _∷ᵀ_}
+use Prim.Native.String.{String}
 use mathlib.Core.Path.{_≡_, refl}
 use mathlib.Core.Bool.{Bool, true, false, _&&_}
 use mathlib.Core.List.{List, [], _∷_}
@@ -13,11 +12,8 @@ use Rattle.texts.specs.Books.{Agent, Book, Net, declared, takes, cellsOf
 use Rattle.texts.specs.Answers.{OfText, accepted, refused, need, _>>=_, absent, holds, refuse, after, afterLine, readLines}
 use Rattle.texts.specs.RuleText.{headerOf, agentFields, even, ruleFields, ruleless, shapeOf, shape, fault3, termsOf, recordOf, meant, fault4, tooLong, bigNode, bigRecord, bigBook, fault5, fault6, wrongArgs, fault7, overNames, allDifferent, rightTimes, wrongTimes, fault8, samePair, fault9, wireOf, sameWire, within, wordAt, mirror, mirrored, oneSided, fault10, headerLine, judged, ruleLine, counted, rulesOfLines, readRules}
 use Rattle.texts.specs.NetText.{faceFields, eqFields, bigNet, netFault5, netFault7, netJudged, faceNet, moreNet, faceLine, eqLine, loose, netLines, looseLine, unlessLoose, tied, netCounted, faceAndEqs, netOfLines, readNet, netRead}
+use Rattle.texts.specs.Words.{bytes}
 use Rattle.texts.specs.Proofs.Reader.{atComma, atOpen, atClose, onPart, partOf, whole, termOf}
-
-pub bytes : String → List ℕ
-bytes []ᵀ = []
-bytes (c ∷ᵀ s) = code c ∷ bytes s
 
 -- An answer has this number on this line; twice 0 stands for an accepted text.
 pub gives : {A : Type 0} → ℕ → ℕ → OfText A → Bool

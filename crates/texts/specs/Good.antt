@@ -1,34 +1,17 @@
 -- Well-formed books, nets and tables.
-use Prim.Native.Nat.{ℕ, _<_, _≤_}
+use Prim.Native.Nat.{ℕ}
 use mathlib.Core.Path.{_≡_}
 use mathlib.Core.Bool.{true, false}
-use mathlib.Core.List.{List, [], _∷_, _++_, map}
-use lib.ListN.{length}
-use Rattle.parts.specs.Limits.{identifier-max}
-use Rattle.texts.specs.Bytes.{Word, any, all, times, lines, decimal}
-use Rattle.texts.specs.Terms.{Term, symbol, worded, spell, Node, nodes}
-use Rattle.texts.specs.Books.{Agent, Equation, Rule, Book, Record, isAgent, isRule, add, noBook, recordsOf, declared, takes, lefts, rights, headOf, leftArgs, namesOf, Net, netTerms, wordAgent, wordRule}
+use mathlib.Core.List.{List, [], _∷_, _++_}
+use Rattle.texts.specs.Bytes.{any, all, lines}
+use Rattle.texts.specs.Terms.{Term, symbol, worded}
+use Rattle.texts.specs.Books.{Agent, Equation, Book, Record, isAgent, isRule, add, noBook, recordsOf, lefts, rights, namesOf, Net, netTerms}
 use Rattle.texts.specs.Answers.{accepted}
-use Rattle.texts.specs.RuleText.{Shape, agentShape, ruleShape, even, ruleless, fault5, fault6, fault7, fault8, fault9, fault10, rulesOfLines}
+use Rattle.texts.specs.RuleText.{ruleless, fault5, fault6, fault7, fault8, fault9, fault10, rulesOfLines}
 use Rattle.texts.specs.NetText.{netFault5, netFault7, faceNet, moreNet, loose}
 use Rattle.texts.specs.Coded.{Table, tableOf}
-use Rattle.texts.specs.Proofs.Tools.{In, Distinct}
 
--- The fields of an agent's line and of a rule's.
-unfoldable pub shapeFields : Shape → List Word
-shapeFields (agentShape s n) = wordAgent ∷ s ∷ decimal n ∷ []
-shapeFields (ruleShape f g fs) = wordRule ∷ f ∷ g ∷ fs
-
--- An agent before all rules, its number written in 1 to 4 digits; and right sides as pairs of fields.
-unfoldable pub Fits : Book → Shape → Type 0
-Fits b (agentShape s n) = (ruleless b ≡ true) × (n < 10000)
-Fits b (ruleShape f g fs) = even fs ≡ true
-
--- How a record is written, and which records are well spelt.
-unfoldable pub shapeFor : Record → Shape
-shapeFor (isAgent a) = agentShape (a .symbol) (a .arity)
-shapeFor (isRule r) = ruleShape (spell (r .first)) (spell (r .second)) (map spell (rights r))
-
+-- A record is well spelt.
 unfoldable pub Spelt : Record → Type 0
 Spelt (isAgent a) = symbol (a .symbol) ≡ true
 Spelt (isRule r) = all worded (lefts r ++ rights r) ≡ true
@@ -78,25 +61,6 @@ pub record GoodNet (ags : List Agent) (n : Net) : Type 0 where
   pub good-equations : GoodEquations ags (faceNet (n .face)) (n .equations)
   pub twice : any (loose (namesOf ags (netTerms n))) (namesOf ags (netTerms n)) ≡ false
 
--- The rule conditions of document 01.
-pub record SoundRule (ags : List Agent) (r : Rule) : Type 0 where
-  -- both left fields are agents
-  pub first-agent : declared ags (headOf (r .first)) ≡ true
-  pub second-agent : declared ags (headOf (r .second)) ≡ true
-  -- whose arguments are names, all different
-  pub names : (w : Word) → In w (leftArgs r) → declared ags w ≡ false
-  pub distinct : Distinct (leftArgs r)
-  -- an agent has as many arguments as its arity, a name none
-  pub arities : (n : Node) → In n (nodes (lefts r ++ rights r)) → n .args ≡ takes ags (n .word)
-  -- each left argument occurs once on the right, any other name there twice
-  pub once : (w : Word) → In w (leftArgs r) → times w (namesOf ags (rights r)) ≡ 1
-  pub twice : (w : Word) → In w (namesOf ags (rights r)) → ¬ In w (leftArgs r) → times w (namesOf ags (rights r)) ≡ 2
-
 -- "A sound table is one that some rule text would give if its length had no limit."
 unfoldable pub SoundTable : Table → Type 0
 SoundTable t = (text : List ℕ) × (b : Book) × (rulesOfLines (lines text) ≡ accepted b) × (tableOf b ≡ t)
-
--- Each symbol begins with a letter and has 1 to 16 bytes, and no two are the same.
-pub record SpeltAgents (ags : List Agent) : Type 0 where
-  pub spelt : (a : Agent) → In a ags → (symbol (a .symbol) ≡ true) × (length (a .symbol) ≤ identifier-max)
-  pub different : Distinct (map (λ a. a .symbol) ags)

@@ -7,8 +7,11 @@ pub mod NetText
 pub mod Coded
 pub mod Meaning
 pub mod TableTest
+pub mod Tests
 pub mod Refused
 pub mod Good
+pub mod Conditions
+pub mod Words
 pub mod Proofs
 pub mod Main
 pub mod Examples

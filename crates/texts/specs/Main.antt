@@ -9,10 +9,12 @@ use lib.ListN.{length}
 use Rattle.parts.specs.Limits.{text-max}
 use Rattle.calculus.specs.Calculus.{Closed}
 use Rattle.calculus.specs.Nets.{_≈_}
-use Rattle.model.specs.Load.{NetReads, loaded}
+use Rattle.model.specs.Load.{loaded}
+use Rattle.model.specs.NetReads.{NetReads}
 use Rattle.model.specs.Sound.{Means}
 use Rattle.model.specs.Sound as Machine
-use Rattle.texts.specs.Bytes.{Word, Line, fields, numberOf, decimal}
+use Rattle.model.specs.SoundTable as SoundTable
+use Rattle.texts.specs.Bytes.{Word, Line, fields, numberOf, decimal, In}
 use Rattle.texts.specs.Terms.{Term, spell, worded}
 use Rattle.texts.specs.Books.{Agent, Rule, Book, Record, isRule, noBook, Net, wordRules, wordNet, printBook, printNet}
 use Rattle.texts.specs.Answers.{fine, fault, accepted, refused, readLines, after}
@@ -21,9 +23,10 @@ use Rattle.texts.specs.NetText.{eqLine, faceLine, faceAndEqs, netOfLines
 use Rattle.texts.specs.Coded.{Table, tableOf, template, machine, load}
 use Rattle.texts.specs.Meaning.{meantRule, meantNet}
 use Rattle.texts.specs.TableTest.{testTable}
-use Rattle.texts.specs.Refused.{First, ruleTests, eqTests, faceTests, RulesRefused, NetRefused}
-use Rattle.texts.specs.Good.{shapeFields, Fits, shapeFor, Spelt, GoodBook, GoodNet, SoundRule, SoundTable, SpeltAgents}
-use Rattle.texts.specs.Proofs.Tools.{In}
+use Rattle.texts.specs.Refused.{First, RulesRefused, NetRefused}
+use Rattle.texts.specs.Tests.{ruleTests, eqTests, faceTests}
+use Rattle.texts.specs.Good.{Spelt, GoodBook, GoodNet, SoundTable}
+use Rattle.texts.specs.Conditions.{shapeFields, Fits, shapeFor, SoundRule, SpeltAgents}
 use Rattle.texts.specs.Proofs.Reader.{termOf}
 use Rattle.texts.specs.Proofs.Spelling.{term-exact}
 use Rattle.texts.specs.Proofs.Splitting.{number-exact}
@@ -138,12 +141,12 @@ pub table-test : (t : Table) → (testTable t ≡ true) ↔ SoundTable t
 table-test = test-sound
 
 -- What is asked beside the machine's own soundness is the spelling of the symbols.
-pub table-machine : (t : Table) → SoundTable t ↔ (SpeltAgents (t .agents) × Machine.SoundTable (machine t))
+pub table-machine : (t : Table) → SoundTable t ↔ (SpeltAgents (t .agents) × SoundTable.SoundTable (machine t))
 table-machine = sound-exact
 
 -- The calculus. The machine's table of a good book is sound, so its rules are proper rules of the calculus, one for
 -- each pair.
-pub table-sound : (b : Book) → GoodBook b → Machine.SoundTable (machine (tableOf b))
+pub table-sound : (b : Book) → GoodBook b → SoundTable.SoundTable (machine (tableOf b))
 table-sound = book-sound
 
 -- Each coded rule means the rule that was written.

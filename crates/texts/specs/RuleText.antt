@@ -61,7 +61,9 @@ shape b l = shapeOf b (fields (l .bytes))
 unfoldable pub fault3 : Book → Line → Bool
 fault3 b l = absent (shape b l)
 
--- 4: "identifier or term misspelt, empty fields and empty brackets included". The record that a line means.
+-- 4: "identifier or term misspelt, empty fields and empty brackets included". The record that a line means. A field f
+-- means the term that it spells: `termOf f ≡ some t` exactly if `spell t ≡ f` and every head in t is an identifier
+-- (`field-means`, Main.antt), whatever way `termOf` takes to find it.
 unfoldable pub termsOf : List Word → Option (List Term)
 termsOf [] = some []
 termsOf (f ∷ fs) = termOf f >>= λ t. termsOf fs >>= λ ts. some (t ∷ ts)

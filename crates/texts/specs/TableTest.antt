@@ -10,7 +10,7 @@ use Rattle.model.specs.Table.{Cell, Entry}
 use Rattle.texts.specs.Bytes.{any, all, keep}
 use Rattle.texts.specs.Terms.{symbol}
 use Rattle.texts.specs.Books.{Agent, declared}
-use Rattle.texts.specs.Coded.{second-from, new-from, Table}
+use Rattle.texts.specs.Coded.{arityAt, unpaired, second-from, new-from, Table}
 
 -- "Identifier 1 to 16 bytes", "symbols [begin] with a letter", "arity 0 to 4".
 unfoldable pub agentOk : Agent → Bool
@@ -21,21 +21,11 @@ unfoldable pub testAgents : List Agent → List Agent → Bool
 testAgents seen [] = true
 testAgents seen (a ∷ bs) = agentOk a && not (declared seen (a .symbol)) && testAgents (seen ++ (a ∷ [])) bs
 
--- The arity of the symbol with a number.
-unfoldable pub arityAt : List Agent → ℕ → ℕ
-arityAt [] n = 0
-arityAt (a ∷ ags) zero = a .arity
-arityAt (a ∷ ags) (suc n) = arityAt ags n
-
 -- A cell of a declared symbol with as many arguments as its arity.
 unfoldable pub cellOk : List Agent → Cell → Bool
 cellOk ags c = ltb (c .symbol) (length ags) && eqb (length (c .args)) (arityAt ags (c .symbol))
 
 -- All sides of a rule: those of its equations, and the arguments of its cells.
-unfoldable pub unpaired : List Pair → List Side
-unpaired [] = []
-unpaired ((s := t) ∷ ps) = s ∷ t ∷ unpaired ps
-
 unfoldable pub argsAll : List Cell → List Side
 argsAll [] = []
 argsAll (c ∷ cs) = c .args ++ argsAll cs

@@ -11,7 +11,8 @@ use borrow.Author.Tests.{eq-eqb, ne-eqb, lt-ltb, le-ltb}
 use mir.Syntax.{w64}
 use mir.Val.{Fits}
 use Rattle.parts.specs.Limits.{arity-max, net-cells-max}
-use Rattle.parts.specs.Sides.{Side, name, cell, side, code, code-side}
+use Rattle.parts.specs.Sides.{Side, name, cell, side, code}
+use Rattle.parts.specs.Codes.{code-side}
 use Rattle.model.specs.Table.{Cell}
 use Rattle.texts.specs.Bytes.{keep}
 use Rattle.texts.specs.Books.{Agent}

@@ -22,9 +22,7 @@ ghost use Rattle.loading.specs.OnSheet.{widthOn, cellOn, cellsOn, faceOn, Lent}
 ghost use Rattle.twice.specs.Counting.{Found, argsOn, standsOn, looseOn, firstLoose, passed};
 
 // One mark for each line of terms: how many names there are after it.
-pub struct Marks {
-    pub unused: bool,
-}
+pub struct Marks;
 
 impl Marks {
     pub const SIZE: usize = 1 + Limits::NET_EQUATIONS;

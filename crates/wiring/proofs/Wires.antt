@@ -10,7 +10,8 @@ use borrow.Author.Tests.{lt-ltb, le-ltb, eq-eqb, ne-eqb}
 use mir.Syntax.{w16, w32}
 use mir.Val.{Fits}
 use Rattle.parts.specs.Limits.{names-max, cells-max}
-use Rattle.parts.specs.Sides.{Pair, cell, code, side, code-side}
+use Rattle.parts.specs.Sides.{Pair, cell, code, side}
+use Rattle.parts.specs.Codes.{code-side}
 use Rattle.parts.specs.Typed.{plain, pair, number, typed, plain-typed}
 use Rattle.parts.specs.declared.Equation.{Equation}
 use Rattle.parts.specs.declared.NameNo.{NameNo}
@@ -18,7 +19,7 @@ use Rattle.parts.specs.declared.CellNo.{CellNo}
 use Rattle.parts.specs.declared.Side.{Side}
 use Rattle.parts.specs.declared.Side.the-variants.{Name, Cell}
 use Rattle.model.specs.State.{St}
-use Rattle.model.specs.Step.{fasten}
+use Rattle.model.specs.Stepped.{fasten}
 use Rattle.state.specs.Places.{stored, looped}
 use Rattle.state.specs.Moves.{put-on, RoomOn}
 use Rattle.state.specs.declared.Part.the-variants.{Names}

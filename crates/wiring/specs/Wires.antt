@@ -15,7 +15,9 @@ use Rattle.parts.specs.declared.NameNo.{NameNo}
 use Rattle.parts.specs.declared.Side.{Side}
 use Rattle.parts.specs.declared.Side.the-variants.{Name, Cell}
 use Rattle.model.specs.State.{St, with-names, with-loops, to, bond}
-use Rattle.model.specs.Step.{Answer, moved, refused, follow, follow-by, fasten, wire, looped, joined}
+use Rattle.model.specs.Step.{Answer, moved, refused, joined}
+use Rattle.model.specs.Follow.{follow, follow-by}
+use Rattle.model.specs.Stepped.{fasten, wire, looped}
 use Rattle.state.specs.Places.{stored}
 use Rattle.state.specs.Places as Places
 use Rattle.state.specs.Moves.{put-on}

@@ -11,7 +11,8 @@ use Rattle.parts.specs.declared.NameNo.{NameNo}
 use Rattle.parts.specs.declared.Side.{Side}
 use Rattle.parts.specs.declared.Side.the-variants.{Name, Cell}
 use Rattle.model.specs.State.{St}
-use Rattle.model.specs.Step.{refused, fasten, wire}
+use Rattle.model.specs.Step.{refused}
+use Rattle.model.specs.Stepped.{fasten, wire}
 use Rattle.state.specs.Places.{stored, looped}
 use Rattle.state.specs.Moves.{put-on}
 use Rattle.state.specs.declared.Part.the-variants.{Names}

@@ -14,7 +14,7 @@ count-requires : tie.Need-count-requires
 count-requires c κs = search needs
 
 returns-2 : tie.Need-returns-2
-returns-2 c = search (needs, way-waits)
+returns-2 c = search (needs, way-waits, way-long)
 
 slice-aggregate-print-answer : tie.Need-slice-aggregate-print-answer
 slice-aggregate-print-answer c = search needs
@@ -23,7 +23,7 @@ print-answer-requires : tie.Need-print-answer-requires
 print-answer-requires c κs = search (needs, both-sure)
 
 returns-3 : tie.Need-returns-3
-returns-3 c = search (needs, way-long)
+returns-3 c = search (needs, way-waits, way-long)
 
 print-answer-requires-2 : tie.Need-print-answer-requires-2
 print-answer-requires-2 c κs = search (needs, both-sure)

@@ -2,8 +2,7 @@
 use mathlib.Core.Path.{_≡_, ap, ap₂}
 use mathlib.Core.List.{List, [], _∷_}
 use Prim.Native.Nat.{ℕ, suc, _+_, _≤_, _<_}
-use Rattle.calculus.specs.Terms.{Sort, one, many, Tree, var, node, nil, cons, names, count, if-eq}
-use Rattle.calculus.specs.Proofs.Ended.{touches}
+use Rattle.calculus.specs.Terms.{Sort, one, many, Tree, var, node, nil, cons, names, count, if-eq, touches}
 use Rattle.answers.specs.Answer.{pick, Numbered, unknown, known, find, Reader, named, read}
 use Rattle.answers.specs.Proofs.Drain.{Once}
 use Rattle.answers.specs.Proofs.Wired.{wired}

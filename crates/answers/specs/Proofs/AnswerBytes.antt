@@ -9,7 +9,8 @@ use Rattle.parts.specs.Limits.{names-max}
 use Rattle.parts.specs.Sides.{Side, Pair, _:=_}
 use Rattle.model.specs.State.{St, listed, used}
 use Rattle.model.specs.Table.{Table}
-use Rattle.model.specs.Sound.{SoundTable, Sound, meaning, mem-of, sides}
+use Rattle.model.specs.Sound.{Sound, meaning, mem-of, sides}
+use Rattle.model.specs.SoundTable.{SoundTable}
 use Rattle.model.specs.Proofs.Facts.{zeros-length, zero-at}
 use Rattle.model.specs.Proofs.Ranges.{LiveSide, face-live, stuck-live}
 use Rattle.texts.specs.Bytes.{tabbed, lineOf, textOf}

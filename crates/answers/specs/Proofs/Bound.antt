@@ -4,21 +4,23 @@ use mathlib.Core.List.{List, [], _∷_, _++_}
 use Prim.Native.Nat.{ℕ, zero, suc, _+_, _≤_, _<_}
 use native.Mathlib.Omega.{arith}
 use lib.ListN.{length, getD}
-use Rattle.calculus.specs.Terms.{step, names, var, Term, Terms, Eqn, _==_, _∼_, count}
+use Rattle.calculus.specs.Terms.{step, names, var, Term, Terms, Eqn, _==_, _∼_, count, touches}
 use Rattle.calculus.specs.Proofs.Perm.{perm-append-right}
 use Rattle.calculus.specs.Proofs.Sub.{Sides-equivalence, ≈of}
 use Rattle.calculus.specs.Proofs.Count.{first-term, δ-other}
-use Rattle.calculus.specs.Proofs.Ended.{touches, touches-append}
-use Rattle.parts.specs.Sides.{Side, name, cell, Pair, _:=_, code-side}
+use Rattle.calculus.specs.Proofs.Ended.{touches-append}
+use Rattle.parts.specs.Sides.{Side, name, cell, Pair, _:=_}
+use Rattle.parts.specs.Codes.{code-side}
 use Rattle.parts.specs.Limits.{names-max}
 use Rattle.parts.specs.Sides as Wd
 use Rattle.model.specs.Reading.{circles, Reads, by-name, by-cell, pairs, bonds}
 use Rattle.model.specs.Table.{Cell, Entry, Table}
 use Rattle.model.specs.Proofs.Parts.{PairSides-equivalence, Part, part}
 use Rattle.model.specs.State.{St, unpack, bare, to, bond, bound, listed}
-use Rattle.model.specs.Step.{drop-bond}
+use Rattle.model.specs.Follow.{drop-bond}
 use Rattle.model.specs.Proofs.Bonds.{_≃_, bonds-drop}
-use Rattle.model.specs.Sound.{AllHeld, SoundTable, Sound, mem-of, meaning}
+use Rattle.model.specs.Sound.{AllHeld, Sound, mem-of, meaning}
+use Rattle.model.specs.SoundTable.{SoundTable}
 use Rattle.model.specs.Proofs.Pool.{Named, named, in-range}
 use Rattle.model.specs.Proofs.Ended.{touched, touch-all, touched-append, unbound}
 use Rattle.model.specs.AtEnd.{ended-normal}

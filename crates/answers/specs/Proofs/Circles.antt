@@ -6,17 +6,17 @@ use Prim.Native.Nat.{ℕ, _+_, _≤_, _<_}
 use native.Mathlib.Decide.{ℕ-discrete, decLt}
 use native.Mathlib.Omega.{arith}
 use lib.ListN.{length}
-use Rattle.calculus.specs.Terms.{keep, step, var, node, Term, Terms, Eqn, _==_, Conf, Sides, _∼_, names}
+use Rattle.calculus.specs.Terms.{keep, step, var, node, Term, Terms, Eqn, _==_, Conf, Sides, _∼_, names, touch, touches}
 use Rattle.calculus.specs.Terms.{eqs-names, occurs, δ, count}
 use Rattle.calculus.specs.Calculus.{Valid, Closed}
 use Rattle.calculus.specs.Proofs.Perm.{perm-append-left, perm-shift}
 use Rattle.calculus.specs.Proofs.Sub.{Sides-equivalence, whole}
 use Rattle.calculus.specs.Proofs.Count.{δ-same, sum-append}
-use Rattle.calculus.specs.Proofs.Ended.{touch, touches, touches-∼, touches-append, touch-count}
+use Rattle.calculus.specs.Proofs.Ended.{touches-∼, touches-append, touch-count}
 use Rattle.calculus.specs.Proofs.Occurs.{closed-valid}
-use Rattle.answers.specs.Answer.{Pick, alone, beside, pick, stuck, sides, tied-agents}
+use Rattle.answers.specs.Answer.{Pick, alone, beside, pick, stuck, sides, tied-agents, pairs-read}
 use Rattle.answers.specs.Knots.{Tied, Hangs, Up, here, more, Circle, Behind, Held, by-face, by-pair, by-tie}
-use Rattle.answers.specs.Knots.{never-met, Knotted}
+use Rattle.answers.specs.Knots.{Knotted}
 use Rattle.answers.specs.Proofs.Order.{PickIs, pick-is}
 use Rattle.answers.specs.Proofs.Drain.{Once, drain}
 use Rattle.answers.specs.Proofs.Knot.{drain-append, left-over}
@@ -25,6 +25,10 @@ use Rattle.answers.specs.Proofs.Ties.{tie-same, tied-head, tied-turned, 
 use Rattle.answers.specs.Proofs.Ties.{Settled, drain-settled, drain-reaches, drain-shared}
 use Rattle.answers.specs.Proofs.Climb.{all-behind}
 use Rattle.answers.specs.Proofs.TieSums.{tied-first, tied-second, same-agents}
+
+-- The equations that are left when the end is read.
+abbrev pub never-met : Conf → List Eqn
+never-met C = (pairs-read C) .after .left
 
 -- How often a name is a side and how often it occurs within the agents of ties.
 touch-wired : (x : ℕ) (l : List Eqn) → touches x l + inner x l ≤ wired x l

@@ -5,12 +5,12 @@ use Prim.Native.Nat.{ℕ, zero, suc, _≤_, _<_}
 use native.Mathlib.Decide.{ℕ-discrete}
 use native.Mathlib.Omega.{arith}
 use lib.ListN.{length}
-use Rattle.calculus.specs.Terms.{none, keep, swap, step, var, Term, Eqn, _==_, _∼_, names, Reordered, if-eq}
+use Rattle.calculus.specs.Terms.{none, keep, swap, step, var, Term, Eqn, _==_, _∼_, names, Reordered, if-eq, side, touches}
 use Rattle.calculus.specs.Proofs.Perm.{perm-sym, perm-of-eq, perm-cons, perm-shift, perm-exchange, perm-append-left}
 use Rattle.calculus.specs.Proofs.Perm.{Path-equivalence, perm-length}
 use Rattle.calculus.specs.Proofs.Sub.{Sides-equivalence}
 use Rattle.calculus.specs.Proofs.Count.{δ-same, δ-other, if-yes, if-no}
-use Rattle.calculus.specs.Proofs.Ended.{side, touches, touches-∼}
+use Rattle.calculus.specs.Proofs.Ended.{touches-∼}
 use Rattle.answers.specs.Answer.{some, none, if-name, Pick, alone, beside, picked, pick}
 use Rattle.answers.specs.Proofs.Order.{Is, it, not, is, PickAlike, PickIs, pick-∼, pick-is, rest-once}
 

@@ -5,10 +5,10 @@ use Prim.Native.Nat.{ℕ, zero, suc, _+_, _≤_, _<_}
 use native.Mathlib.Decide.{ℕ-discrete, decLt}
 use native.Mathlib.Omega.{arith}
 use lib.ListN.{length}
-use Rattle.calculus.specs.Terms.{Sort, one, many, Tree, var, node, nil, cons, Term, Terms, Eqn, _==_, names, δ, count}
+use Rattle.calculus.specs.Terms.{Sort, one, many, Tree, var, node, nil, cons, Term, Terms, Eqn, _==_, names, δ, count, touches}
 use Rattle.calculus.specs.Terms.{_∼_, step}
 use Rattle.calculus.specs.Proofs.Count.{δ-same, δ-other, sum-append}
-use Rattle.calculus.specs.Proofs.Ended.{touches, touches-∼}
+use Rattle.calculus.specs.Proofs.Ended.{touches-∼}
 use Rattle.calculus.specs.Proofs.Perm.{perm-length}
 use Rattle.calculus.specs.Proofs.Sub.{whole, back}
 use Rattle.answers.specs.Answer.{Pick, alone, beside, pick, Found, unknown, known, find, Reader, Reading, named}

@@ -5,12 +5,12 @@ use Prim.Native.Nat.{ℕ, zero, suc, _≤_, _<_}
 use native.Mathlib.Decide.{ℕ-discrete}
 use native.Mathlib.Omega.{arith}
 use lib.ListN.{length}
-use Rattle.calculus.specs.Terms.{none, keep, swap, step, Sort, one, Tree, var, node, nil, cons, Term, Eqn, _==_, Conf}
+use Rattle.calculus.specs.Terms.{none, keep, swap, step, Sort, one, Tree, var, node, nil, cons, Term, Eqn, _==_, Conf, touches}
 use Rattle.calculus.specs.Terms.{Sides, _∼_, names, eqn-names, eqs-names, Reordered}
 use Rattle.calculus.specs.Proofs.Perm.{perm-refl, perm-of-eq, perm-append, perm-exchange, Path-equivalence}
 use Rattle.calculus.specs.Proofs.Perm.{perm-length}
 use Rattle.calculus.specs.Proofs.Count.{δ-same, if-no}
-use Rattle.calculus.specs.Proofs.Ended.{touches, touches-∼}
+use Rattle.calculus.specs.Proofs.Ended.{touches-∼}
 use Rattle.answers.specs.Answer.{Pick, alone, beside, pick, Numbered, Found, unknown, known, find, Reader}
 use Rattle.answers.specs.Answer.{Reading, named, then, read-by, read, stuck, sides, tied-agents, start}
 use Rattle.answers.specs.Answer.{face-read, pairs-read, answer}

@@ -7,10 +7,12 @@ use lib.ListN.{getD, take, drop}
 use lib.Seq.{getD-drop}
 use Rattle.calculus.specs.Proofs.Ended.{All}
 use Rattle.parts.specs.Limits.{arity-max}
-use Rattle.parts.specs.Sides.{Side, cell, side, code-side}
+use Rattle.parts.specs.Sides.{Side, cell, side}
+use Rattle.parts.specs.Codes.{code-side}
 use Rattle.model.specs.State.{St, Bond, free, bare, to, bond, bound, unpack}
 use Rattle.model.specs.Table.{Table}
-use Rattle.model.specs.Sound.{SoundTable, Sound, mem-of, width}
+use Rattle.model.specs.Sound.{Sound, mem-of, width}
+use Rattle.model.specs.SoundTable.{SoundTable}
 use Rattle.model.specs.Proofs.Ranges.{LiveSide, argument-live, bond-live}
 use Rattle.answers.specs.Printer.{pair-sides, state-bonds}
 

@@ -3,10 +3,10 @@ use mathlib.Core.Path.{_≡_, _∙_, ap}
 use mathlib.Core.List.{List, _∷_, _++_}
 use Prim.Native.Nat.{ℕ, suc, _+_, _<_}
 use native.Mathlib.Omega.{arith}
-use Rattle.calculus.specs.Terms.{var, node, Terms, Eqn, _==_, names, δ, count}
+use Rattle.calculus.specs.Terms.{var, node, Terms, Eqn, _==_, names, δ, count, touches}
 use Rattle.calculus.specs.Terms.{_∼_}
 use Rattle.calculus.specs.Proofs.Count.{δ-same, sum-append, if-no}
-use Rattle.calculus.specs.Proofs.Ended.{touches, touches-∼}
+use Rattle.calculus.specs.Proofs.Ended.{touches-∼}
 use Rattle.answers.specs.Answer.{Found, unknown, known, find, Reader}
 use Rattle.answers.specs.Proofs.Order.{rest-once}
 use Rattle.answers.specs.Proofs.Knot.{found-more}

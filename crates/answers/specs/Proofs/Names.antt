@@ -6,7 +6,8 @@ use native.Mathlib.Decide.{ℕ-discrete}
 use lib.ListN.{length}
 use Rattle.calculus.specs.Terms.{Sort, one, Tree, var, node, nil, cons, Term, Terms, Eqn, _==_, Conf, sub, sub-eqn}
 use Rattle.calculus.specs.Terms.{ren, if-eq}
-use Rattle.calculus.specs.Nets.{Renaming, rename}
+use Rattle.calculus.specs.Nets.{Renaming}
+use Rattle.calculus.specs.Proofs.Rename.{rename}
 use Rattle.calculus.specs.Proofs.Count.{if-yes, if-no}
 use Rattle.answers.specs.Answer.{Other, none, some, if-name, other, Pick, alone, beside, picked, pick, Numbered}
 use Rattle.answers.specs.Answer.{Found, unknown, known, find, Reader, Reading, named, agent, then, read-by}

@@ -4,12 +4,12 @@ use mathlib.Core.List.{[], List, _∷_}
 use mathlib.Core.Logic.{_⊎_, inl, inr}
 use Prim.Native.Nat.{ℕ, zero, suc, _≤_}
 use native.Mathlib.Omega.{arith}
-use Rattle.calculus.specs.Terms.{Perm, none, keep, swap, step, Sort, one, Tree, var, node, nil, cons, Term, Terms}
+use Rattle.calculus.specs.Terms.{Perm, none, keep, swap, step, Sort, one, Tree, var, node, nil, cons, Term, Terms, side, touch, touches}
 use Rattle.calculus.specs.Terms.{Eqn, _==_, Sides, _∼_, δ}
 use Rattle.calculus.specs.Proofs.Perm.{perm-refl, perm-cons}
 use Rattle.calculus.specs.Proofs.Sub.{Sides-equivalence, name-of}
 use Rattle.calculus.specs.Proofs.Count.{δ-cases, if-yes, if-no}
-use Rattle.calculus.specs.Proofs.Ended.{side, touch, touches, touches-∼}
+use Rattle.calculus.specs.Proofs.Ended.{touches-∼}
 use Rattle.answers.specs.Answer.{Other, none, some, if-name, other, Pick, alone, beside, picked, pick, Found}
 use Rattle.answers.specs.Answer.{unknown, known, find, Reader, Reading, named, read-by, read, sides}
 

@@ -6,10 +6,9 @@ use Prim.Native.Nat.{ℕ, zero, suc, _+_, _≤_, _<_}
 use native.Mathlib.Decide.{ℕ-discrete}
 use native.Mathlib.Omega.{arith}
 use lib.ListN.{length}
-use Rattle.calculus.specs.Terms.{none, Sort, one, many, var, node, nil, cons, Term, Terms, Eqn, _==_, Conf, _∼_}
+use Rattle.calculus.specs.Terms.{none, Sort, one, many, var, node, nil, cons, Term, Terms, Eqn, _==_, Conf, _∼_, touch}
 use Rattle.calculus.specs.Terms.{names, eqs-names, δ, count}
 use Rattle.calculus.specs.Proofs.Count.{δ-same, δ-other, δ-cases, sum-append, if-yes, if-no}
-use Rattle.calculus.specs.Proofs.Ended.{touch}
 use Rattle.calculus.specs.Proofs.Perm.{perm-length}
 use Rattle.calculus.specs.Calculus.{Valid}
 use Rattle.parts.specs.Sides.{Side, name, cell}

@@ -14,13 +14,14 @@ use Rattle.calculus.specs.Proofs.Ended.{All}
 use Rattle.parts.specs.Sides.{Side, name, cell}
 use Rattle.model.specs.State.{St, Bond, free, bare, to, used, listed}
 use Rattle.model.specs.Table.{Table}
-use Rattle.model.specs.Sound.{SoundTable, Sound, mem-of, meaning, sides}
+use Rattle.model.specs.Sound.{Sound, mem-of, meaning, sides}
+use Rattle.model.specs.SoundTable.{SoundTable}
 use Rattle.model.specs.Proofs.Ranges.{LiveSide, face-live, stuck-live}
-use Rattle.texts.specs.Bytes.{Word, all, letter, digit, wordByte, isNumber, numberOf, value, decimal}
+use Rattle.texts.specs.Bytes.{Word, all, letter, digit, wordByte, isNumber, numberOf, value, decimal, In}
 use Rattle.texts.specs.Terms.{identifier, symbol, spell, worded, wordeds}
 use Rattle.texts.specs.Books.{Agent}
-use Rattle.texts.specs.Good.{SpeltAgents}
-use Rattle.texts.specs.Proofs.Tools.{In, never, both, pair, all-mono}
+use Rattle.texts.specs.Conditions.{SpeltAgents}
+use Rattle.texts.specs.Proofs.Tools.{never, both, pair, all-mono}
 use Rattle.texts.specs.Proofs.Agents.{symbol-identifier}
 use Rattle.texts.specs.Proofs.Reader.{termOf}
 use Rattle.texts.specs.Main.{field-means, number-means}

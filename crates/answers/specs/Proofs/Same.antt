@@ -5,14 +5,16 @@ use Prim.Native.Nat.{ℕ, _≤_, _<_}
 use native.Mathlib.Decide.{decLt}
 use native.Mathlib.Omega.{arith}
 use lib.ListN.{length}
-use Rattle.calculus.specs.Terms.{step, one, var, Term, Terms, Eqn, _==_, Conf, _∼_}
+use Rattle.calculus.specs.Terms.{step, one, var, Term, Terms, Eqn, _==_, Conf, _∼_, touches}
 use Rattle.calculus.specs.Proofs.Perm.{perm-refl, perm-cons, perm-length}
 use Rattle.calculus.specs.Proofs.Sub.{Sides-equivalence}
-use Rattle.calculus.specs.Nets.{rename, _≈_}
+use Rattle.calculus.specs.Nets.{_≈_}
+use Rattle.calculus.specs.Proofs.Rename.{rename}
 use Rattle.calculus.specs.Descent.{Normal}
 use Rattle.calculus.specs.Calculus.{Book, Step, communication}
-use Rattle.calculus.specs.Proofs.Ended.{touches, touches-∼}
-use Rattle.answers.specs.Answer.{Same, Pick, alone, beside, pick, read, stuck, sides, loops, agents}
+use Rattle.calculus.specs.Proofs.Ended.{touches-∼}
+use Rattle.answers.specs.Answer.{Pick, alone, beside, pick, read, stuck, sides, loops, agents}
+use Rattle.answers.specs.Same.{Same}
 use Rattle.answers.specs.Answer.{tied-agents, start, face-read, pairs-read, answer}
 use Rattle.answers.specs.Proofs.Names.{eqs-to, answer-rename, stuck-rename}
 use Rattle.answers.specs.Proofs.Counts.{stuck-∼, loops-∼, tied-agents-∼}

@@ -5,7 +5,8 @@ use native.Mathlib.Omega.{arith}
 use Rattle.calculus.specs.Terms.{Terms}
 use Rattle.model.specs.State.{St, used}
 use Rattle.model.specs.Table.{Table}
-use Rattle.model.specs.Sound.{SoundTable, Sound, meaning}
+use Rattle.model.specs.Sound.{Sound, meaning}
+use Rattle.model.specs.SoundTable.{SoundTable}
 use Rattle.answers.specs.Answer.{agents, Answer, answer}
 use Rattle.answers.specs.Printer.{state-face, state-pairs, state-answer}
 use Rattle.answers.specs.Proofs.Bound.{state-printed}

@@ -5,11 +5,10 @@ use mathlib.Core.Logic.{_⊎_, inl, inr}
 use Prim.Native.Nat.{ℕ, _+_, _*_, _≤_, _<_}
 use native.Mathlib.Omega.{arith}
 use lib.ListN.{length}
-use Rattle.calculus.specs.Terms.{one, var, node, Term, Terms, Eqn, _==_, Conf, names, δ, count, none, keep, swap}
+use Rattle.calculus.specs.Terms.{one, var, node, Term, Terms, Eqn, _==_, Conf, names, δ, count, none, keep, swap, touch, touches}
 use Rattle.calculus.specs.Terms.{step, Sides, _∼_, _⟦_/_⟧}
 use Rattle.calculus.specs.Calculus.{Valid, Substitution}
 use Rattle.calculus.specs.Proofs.Count.{δ-same, sum-append}
-use Rattle.calculus.specs.Proofs.Ended.{touch, touches}
 use Rattle.calculus.specs.Proofs.Perm.{perm-append, perm-append-right, perm-exchange, perm-shift}
 use Rattle.calculus.specs.Proofs.Sub.{Sides-equivalence, ≈of, whole, back, on}
 use Rattle.answers.specs.Answer.{start, face-read, pairs-read, read, stuck-pair, stuck, sides, tie-agents}

@@ -6,11 +6,11 @@ use Prim.Native.Nat.{ℕ, zero, suc, _≤_, _<_}
 use native.Mathlib.Decide.{ℕ-discrete, decLt}
 use native.Mathlib.Omega.{arith}
 use lib.ListN.{length}
-use Rattle.calculus.specs.Terms.{keep, swap, step, var, node, Term, Terms, Eqn, _==_, Sides, _∼_, names, δ, count}
+use Rattle.calculus.specs.Terms.{keep, swap, step, var, node, Term, Terms, Eqn, _==_, Sides, _∼_, names, δ, count, touches}
 use Rattle.calculus.specs.Proofs.Perm.{perm-length}
 use Rattle.calculus.specs.Proofs.Sub.{back, on, whole}
 use Rattle.calculus.specs.Proofs.Count.{δ-same, δ-other, sum-append}
-use Rattle.calculus.specs.Proofs.Ended.{touches, touches-∼}
+use Rattle.calculus.specs.Proofs.Ended.{touches-∼}
 use Rattle.answers.specs.Answer.{Pick, alone, beside, pick}
 use Rattle.answers.specs.Knots.{Tied, Hangs}
 use Rattle.answers.specs.Proofs.Order.{PickIs, pick-is, rest-once, var-node}

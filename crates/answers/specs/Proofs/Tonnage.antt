@@ -9,11 +9,13 @@ use Rattle.calculus.specs.Order.{order-does-not-matter}
 use Rattle.calculus.specs.Proofs.Rename.{≈-sym}
 use Rattle.model.specs.State.{St}
 use Rattle.model.specs.Table.{Table}
-use Rattle.model.specs.Sound.{SoundTable, Sound, meaning}
+use Rattle.model.specs.Sound.{Sound, meaning}
+use Rattle.model.specs.SoundTable.{SoundTable}
 use Rattle.model.specs.Walk.{Walk}
 use Rattle.model.specs.AtEnd.{ended-normal}
 use Rattle.model.specs.Demand3.{walks-agree}
-use Rattle.answers.specs.Answer.{answer, Same}
+use Rattle.answers.specs.Answer.{answer}
+use Rattle.answers.specs.Same.{Same}
 use Rattle.answers.specs.Proofs.Same.{same-answer}
 
 pub one-tonnage : {B : Book} → Calculus.Sound B → {C N D : Conf} {M M′ : List Label} → Valid C

@@ -6,7 +6,8 @@ use mathlib.Core.Logic.{inl, inr}
 use Prim.Native.Nat.{ℕ, _+_, _≤_}
 use native.Mathlib.Omega.{arith}
 use Rattle.calculus.specs.Terms.{Reordered, none, keep, swap, step}
-use Rattle.calculus.specs.Descent.{Equivalence, Steps, done, more, Normal, tally, Meet, Diamond, Ends}
+use Rattle.calculus.specs.Descent.{Steps, done, more, Normal, tally, Ends}
+use Rattle.calculus.specs.Proofs.Diamond.{Equivalence, Meet, Diamond}
 use Rattle.calculus.specs.Proofs.Perm.{Path-equivalence, perm-refl}
 
 -- Two steps to one state; and a meeting, read from the other side.

@@ -1,26 +1,14 @@
 -- Where neither Communication nor Interaction applies: no name is a side of two equations, and no equation has a rule.
 use mathlib.Core.Path.{_≡_, refl, _∙_}
 use mathlib.Core.List.{List, [], _∷_, _++_}
-use Prim.Native.Nat.{ℕ, _+_, _≤_, min}
+use Prim.Native.Nat.{ℕ, _+_, _≤_}
 use native.Mathlib.Omega.{arith}
 use Rattle.calculus.specs.Terms.{var, node, Term, Terms, Eqn, _==_, Conf, names, eqs-names, δ}
-use Rattle.calculus.specs.Terms.{count, none, keep, swap, step, Sides, _∼_}
+use Rattle.calculus.specs.Terms.{count, side, touch, touches, none, keep, swap, step, Sides, _∼_}
 use Rattle.calculus.specs.Calculus.{Rule, Book, Step, communication, interaction}
 use Rattle.calculus.specs.Descent.{Normal}
 use Rattle.calculus.specs.Proofs.Sub.{Sides-equivalence}
 use Rattle.calculus.specs.Proofs.Count.{δ-same, sum-eqn}
-
--- In how many of some equations a name is a side.
-abbrev pub side : ℕ → Term → ℕ
-side x (var y) = δ x y
-side x (node a ts) = 0
-
-abbrev pub touch : ℕ → Eqn → ℕ
-touch x (t == u) = min 1 (side x t + side x u)
-
-abbrev pub touches : ℕ → List Eqn → ℕ
-touches x [] = 0
-touches x (e ∷ l) = touch x e + touches x l
 
 abbrev pub All : {A : Type 0} → (A → Type 0) → List A → Type 0
 All P [] = Unit {0}

@@ -4,7 +4,7 @@ use mathlib.Core.Logic.{_⊎_, inl, inr}
 use Rattle.calculus.specs.Terms.{Conf}
 use Rattle.calculus.specs.Calculus.{Valid, Book, Sound, Label, Int, Step, communication, interaction}
 use Rattle.calculus.specs.Nets.{_≈_}
-use Rattle.calculus.specs.Descent.{Meet, Diamond}
+use Rattle.calculus.specs.Proofs.Diamond.{Meet, Diamond}
 use Rattle.calculus.specs.Proofs.Rename.{≈-equivalence}
 use Rattle.calculus.specs.Proofs.Occurs.{valid-kept}
 use Rattle.calculus.specs.Proofs.Compatible.{compatible}

@@ -8,14 +8,14 @@ use Rattle.calculus.specs.Terms.{var, node, Term, Terms, Eqn, _==_, Conf
 use Rattle.calculus.specs.Terms.{count, occurs, keep, swap, step, Sides, _∼_, sub, sub-eqn, terms, ren}
 use Rattle.calculus.specs.Calculus.{Valid, Rule, TwoSided, Proper, SamePair, Book, Sound}
 use Rattle.calculus.specs.Calculus.{Communication, Interaction, Com, Int, Step, interaction}
-use Rattle.calculus.specs.Nets.{rename, _≈_}
-use Rattle.calculus.specs.Descent.{Equivalence, Meet}
+use Rattle.calculus.specs.Nets.{_≈_}
+use Rattle.calculus.specs.Proofs.Diamond.{Equivalence, Meet}
 use Rattle.calculus.specs.Proofs.Perm.{Moved, perm-append-left, perm-append-right, perm-shift, perm-exchange}
 use Rattle.calculus.specs.Proofs.Sub.{Sides-equivalence, sides-inv, symbol, arguments, ≈of, back, on}
 use Rattle.calculus.specs.Proofs.Sub.{whole, heads, sub-∼, sub-eqs-sub, terms-map}
 use Rattle.calculus.specs.Proofs.Count.{δ-cases, sum-append, sum-conf, sub-eqs-ext}
 use Rattle.calculus.specs.Proofs.Count.{sub-fixed, sub-eqs-fixed, terms-agree}
-use Rattle.calculus.specs.Proofs.Rename.{≈-sym, ≈-trans, ≈-rename, ≈-equivalence}
+use Rattle.calculus.specs.Proofs.Rename.{≈-sym, ≈-trans, ≈-rename, ≈-equivalence, rename}
 use Rattle.calculus.specs.Proofs.Carry.{Carried, carry, above, count-above, below-above, find}
 use Rattle.calculus.specs.Proofs.Occurs.{occurs-communication, occurs-interaction}
 use Rattle.calculus.specs.Proofs.Occurs.{occurs-redex, sum-body, valid-kept}

@@ -7,11 +7,15 @@ use native.Mathlib.Decide.{ℕ-discrete}
 use native.Mathlib.Omega.{arith}
 use Rattle.calculus.specs.Terms.{var, Term, Conf, names, eqs-names, δ, sum, count, occurs}
 use Rattle.calculus.specs.Terms.{step, _∼_, sub, sub-eqn, ren, if-eq}
-use Rattle.calculus.specs.Nets.{Renaming, rename, _≈_}
-use Rattle.calculus.specs.Descent.{Equivalence}
+use Rattle.calculus.specs.Nets.{Renaming, _≈_}
+use Rattle.calculus.specs.Proofs.Diamond.{Equivalence}
 use Rattle.calculus.specs.Proofs.Sub.{≈of, back, whole, sub-∼, sub-var, sub-sub, sub-eqs-var, sub-eqs-sub}
 use Rattle.calculus.specs.Proofs.Count.{if-yes, if-no, δ-cases, δ-same, δ-other, sum-conf}
 use Rattle.calculus.specs.Proofs.Count.{sum-sub, sum-sub-eqs, sum-eqs, sum-ext}
+
+-- The renamed configuration.
+abbrev pub rename : (ℕ → ℕ) → Conf → Conf
+rename f C = record { face = sub (ren f) (C .face); eqs = map (sub-eqn (ren f)) (C .eqs) }
 
 abbrev pub identity : Renaming
 identity = record { to = λ x. x; from = λ x. x; to-from = λ x. refl; from-to = λ x. refl }

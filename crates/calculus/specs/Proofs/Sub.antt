@@ -5,7 +5,7 @@ use mathlib.Core.Logic.{_⊎_, inl, inr}
 use Prim.Native.Nat.{ℕ}
 use Rattle.calculus.specs.Terms.{Sort, Tree, var, node, nil, cons, Term, Terms, Eqn}
 use Rattle.calculus.specs.Terms.{_==_, Sides, _∼_, sub, sub-eqn, terms}
-use Rattle.calculus.specs.Descent.{Equivalence}
+use Rattle.calculus.specs.Proofs.Diamond.{Equivalence}
 use Rattle.calculus.specs.Proofs.Perm.{perm-refl, perm-sym, perm-of-eq, perm-cons, perm-map, perm-heads, Moved}
 
 pub Sides-equivalence : Equivalence Sides

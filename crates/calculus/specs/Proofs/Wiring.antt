@@ -8,7 +8,7 @@ use Rattle.calculus.specs.Terms.{var, Term, Eqn, _==_, Conf, names, eqs-
 use Rattle.calculus.specs.Terms.{occurs, keep, swap, step, Sides, _∼_, sub, ren}
 use Rattle.calculus.specs.Calculus.{Valid, Book, Communication, Com, Step, communication}
 use Rattle.calculus.specs.Nets.{_≈_}
-use Rattle.calculus.specs.Descent.{Meet}
+use Rattle.calculus.specs.Proofs.Diamond.{Meet}
 use Rattle.calculus.specs.Proofs.Perm.{Two, two-alike, one-alike, none-alike, Paired, as-is}
 use Rattle.calculus.specs.Proofs.Perm.{left-turned, right-turned, both-turned, perm-two}
 use Rattle.calculus.specs.Proofs.Sub.{Sides-equivalence, Matched, sides-inv, var-inj}

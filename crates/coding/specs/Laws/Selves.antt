@@ -11,9 +11,9 @@ use Rattle.texts.specs.Bytes.{any, all, same}
 use Rattle.texts.specs.Books.{Agent, Book, isRule, rights, headOf, argsOf, cellsOf, newNames}
 use Rattle.texts.specs.Books as Books
 use Rattle.texts.specs.RuleText.{Wire, fault10, oneSided, within, mirrored, wireOf}
-use Rattle.texts.specs.Coded.{symbolOf, template}
-use Rattle.texts.specs.TableTest.{arityAt, turnsTo, twoSided}
-use Rattle.texts.specs.Good.{SoundRule}
+use Rattle.texts.specs.Coded.{symbolOf, template, arityAt}
+use Rattle.texts.specs.TableTest.{turnsTo, twoSided}
+use Rattle.texts.specs.Conditions.{SoundRule}
 use Rattle.texts.specs.Proofs.Tools.{empty}
 use Rattle.texts.specs.Proofs.Templates.{Few, template-cells, right-args}
 use Rattle.texts.specs.Proofs.Ranged.{first-arity, second-arity}

@@ -15,8 +15,8 @@ use Rattle.parts.specs.Sides.{Side, name, cell, Pair, _:=_, code, side}
 use Rattle.model.specs.Table.{Cell, Entry}
 use Rattle.texts.specs.Bytes.{Word, all}
 use Rattle.texts.specs.Books.{Agent}
-use Rattle.texts.specs.Coded.{second-from, new-from}
-use Rattle.texts.specs.TableTest.{agentOk, arityAt, cellOk, codeOk, unpaired, argsAll, allCodes}
+use Rattle.texts.specs.Coded.{second-from, new-from, arityAt, unpaired}
+use Rattle.texts.specs.TableTest.{agentOk, cellOk, codeOk, argsAll, allCodes}
 use Rattle.texts.specs.Proofs.Tools.{both, all-left, all-right, all-mono}
 use Rattle.table.specs.declared.Rule.{Rule}
 use Rattle.table.specs.Lists.{tab}
@@ -27,20 +27,20 @@ use Rattle.table.specs.Laws.Lists.{tab-at, tab-cong, row-at}
 use Rattle.table.specs.Laws.Rows.{all-at, Fits, arity-small, side-in, node-in, rule-back}
 use Rattle.terms.specs.Sheet.{Sheet}
 use Rattle.terms.specs.Meaning.{CellIs, CellsAre, Holds}
-use Rattle.coding.specs.Made.{nodeByte, sideBytes, nodeBytes, Made}
+use Rattle.coding.specs.Made.{byte-size, nodeByte, sideBytes, nodeBytes, Made}
 
 -- A code that fits a byte.
 byte : Side → Bool
-byte s = ltb (code s) 256
+byte s = ltb (code s) byte-size
 
 -- The sides of an entry within the sizes do.
 code-byte : (ags : List Agent) (e : Entry) → length (e .cells) ≤ rule-cells-max → e .fresh ≤ rule-names-max → (s : Side) → codeOk ags e s ≡ true → byte s ≡ true
 unfolding codeOk byte
-code-byte ags e hc hn (cell c) h = let q : c < length (e .cells) = ltb-true c (length (e .cells)) h in lt-ltb (1 + 2 * c) 256 (omega (arith, q))
-code-byte ags e hc hn (name x) h = lt-ltb (2 * x) 256 (go (ltb x second-from) (ltb x new-from) refl refl h)
+code-byte ags e hc hn (cell c) h = let q : c < length (e .cells) = ltb-true c (length (e .cells)) h in lt-ltb (1 + 2 * c) byte-size (omega (arith, q))
+code-byte ags e hc hn (name x) h = lt-ltb (2 * x) byte-size (go (ltb x second-from) (ltb x new-from) refl refl h)
   where
     go : (t u : Bool) → ltb x second-from ≡ t → ltb x new-from ≡ u
-        → cond t (ltb x (arityAt ags (e .left))) (cond u (ltb x (second-from + arityAt ags (e .right))) (ltb x (new-from + e .fresh))) ≡ true → 2 * x < 256
+        → cond t (ltb x (arityAt ags (e .left))) (cond u (ltb x (second-from + arityAt ags (e .right))) (ltb x (new-from + e .fresh))) ≡ true → 2 * x < byte-size
     go true u ht hu k = let q : x < second-from = ltb-true x second-from ht in omega (arith, q)
     go false true ht hu k = let q : x < new-from = ltb-true x new-from hu in omega (arith, q)
     go false false ht hu k = let q : x < new-from + e .fresh = ltb-true x (new-from + e .fresh) k in omega (arith, q)
@@ -60,9 +60,9 @@ args-at [] k h q = absurd (omega arith)
 args-at (c ∷ cs) ℕ.zero h q = all-left byte (c .args) (argsAll cs) h
 args-at (c ∷ cs) (ℕ.suc k) h q = args-at cs k (all-right byte (c .args) (argsAll cs) h) (omega arith)
 
-byte-at : (xs : List Side) (k : ℕ) → all byte xs ≡ true → k < length xs → code (getD xs k (name 0)) < 256
+byte-at : (xs : List Side) (k : ℕ) → all byte xs ≡ true → k < length xs → code (getD xs k (name 0)) < byte-size
 unfolding byte
-byte-at xs k h q = ltb-true (code (getD xs k (name 0))) 256 (all-at byte xs k (name 0) h q)
+byte-at xs k h q = ltb-true (code (getD xs k (name 0))) byte-size (all-at byte xs k (name 0) h q)
 
 entry-of : {a b c d f g : ℕ} {ps qs : List Pair} {cs ds : List Cell} → a ≡ b → c ≡ d → ps ≡ qs → cs ≡ ds → f ≡ g
     → _≡_ {A = Entry} (record { left = a; right = c; body = ps; cells = cs; fresh = f }) (record { left = b; right = d; body = qs; cells = ds; fresh = g })
@@ -89,12 +89,12 @@ module _ (text : List ℕ) (ags : List Agent) (e : Entry) (small : Small ags e) 
   unfolding sideBytes
   side-same i h =
       let l : i < 2 * rule-equations-max = omega (arith, long, pairs, small .fits .few) in
-      let b : code (getD (unpaired (e .body)) i (name 0)) < 256 =
+      let b : code (getD (unpaired (e .body)) i (name 0)) < byte-size =
       byte-at (unpaired (e .body)) i (all-left byte (unpaired (e .body)) (argsAll (e .cells)) all-bytes) (omega (arith, long)) in
       getD-append-add (rule .left ∷ rule .right ∷ rule .equations ∷ rule .cells ∷ rule .names ∷ []) (rule .sides ++ rule .nodes) i 0
       ∙ (List·getD-append (rule .sides) (rule .nodes) 0 i (omega (arith, made .sides .long))
       ∙ (made .sides .each i h
-      ∙ (ap (λ x. x % 256) (given i h)
+      ∙ (ap (λ x. x % byte-size) (given i h)
       ∙ (mod-eq-of-lt b
       ∙ sym (side-in e i l ∙ List·getD-map code (unpaired (e .body)) i (name 0))))))
 
@@ -130,7 +130,7 @@ module _ (text : List ℕ) (ags : List Agent) (e : Entry) (small : Small ags e) 
   symbol-same : (k : ℕ) → k < length (e .cells) → getD (row rule) (nodes-in + (node-size * k + 0)) 0 ≡ getD (ruleBytes e) (nodes-in + (node-size * k + 0)) 0
   unfolding nodeByte Layout.nodeBytes
   symbol-same k h =
-      let b : getD (s .symbols) k 0 < 256 = omega (arith, (cell-is k h) .symbol, cell-good k h .0, small .agents) in
+      let b : getD (s .symbols) k 0 < byte-size = omega (arith, (cell-is k h) .symbol, cell-good k h .0, small .agents) in
       node-same k 0 h (omega arith)
       ∙ (mod-eq-of-lt b ∙ ((cell-is k h) .symbol ∙ (add-one ((getD (e .cells) k none) .symbol) ∙ sym (row-same k 0 h (omega arith)))))
 
@@ -141,11 +141,11 @@ module _ (text : List ℕ) (ags : List Agent) (e : Entry) (small : Small ags e) 
       let a : j < arity-max = omega (arith, q, cell-good k h .1, arity-small ags ((getD (e .cells) k none) .symbol) (small .good)) in
       let z : 1 + j ≡ suc j = omega arith in
       let p = (cell-is k h) .args j q in
-      let b : code (getD ((getD (e .cells) k none) .args) j (name 0)) < 256 =
+      let b : code (getD ((getD (e .cells) k none) .args) j (name 0)) < byte-size =
       byte-at ((getD (e .cells) k none) .args) j (args-at (e .cells) k (all-right byte (unpaired (e .body)) (argsAll (e .cells)) all-bytes) h) q in
       rw z
       (node-same k (suc j) h (omega (arith, a))
-      ∙ (ap (λ x. x % 256) p
+      ∙ (ap (λ x. x % byte-size) p
       ∙ (mod-eq-of-lt b
       ∙ sym (row-same k (suc j) h (omega (arith, a))
       ∙ (tab-at arity-max (λ m. getD (map code ((getD (e .cells) k none) .args)) m 0) j 0 a ∙ List·getD-map code ((getD (e .cells) k none) .args) j (name 0))))))

@@ -1,7 +1,7 @@
 -- One word entered: the names are the grown ones, or they pass the limit. And which words are kept.
 use Prim.Native.Nat.{ℕ, _+_, _-_, _≤_, _<_}
 use mathlib.Core.Path.{_≡_, refl, sym, ap, subst, _∙_}
-use mathlib.Core.Bool.{Bool, true, false, cond, not, _&&_, _||_}
+use mathlib.Core.Bool.{Bool, true, false, cond, _&&_, _||_}
 use mathlib.Core.List.{List, [], _∷_, _++_}
 use native.Mathlib.Omega.{arith}
 use lib.Dec.{ltb}
@@ -9,18 +9,18 @@ use lib.ListN.{length, getD, take, drop, length-append}
 use borrow.Author.Tests.{lt-ltb, le-ltb, ltb-true, ltb-false, le-leb}
 use Rattle.parts.specs.Limits.{text-max, identifier-max, net-names-max, level-max}
 use Rattle.model.specs.Table.{Cell}
-use Rattle.texts.specs.Bytes.{Word, any, keep, same, among, indexOf}
+use Rattle.texts.specs.Bytes.{Word, any, keep, among, indexOf}
 use Rattle.texts.specs.Terms.{Term, Node, nodes, wordsOf}
 use Rattle.texts.specs.Books.{Agent, declared, namesOf}
 use Rattle.texts.specs.RuleText.{tooLong, bigNode}
-use Rattle.texts.specs.Proofs.Tools.{never, same-eq, neither}
+use Rattle.texts.specs.Proofs.Tools.{neither}
 use Rattle.terms.specs.Sheet.{Sheet, entered}
 use Rattle.terms.specs.Words.{entries}
 use Rattle.terms.specs.Reader.{Done, done}
 use Rattle.terms.specs.Meaning.{Holds, grown}
 use Rattle.terms.specs.Proofs.Numbers.{index-in, index-out, grown-longer}
 use Rattle.terms.specs.Proofs.Written.{cells-kept, entered-sized, entered-count, entered-symbols, entered-arguments, entered-named}
-use Rattle.lines.specs.Names.{between, left, kept, roomFor, newAfter, newBy, wordBy}
+use Rattle.lines.specs.Names.{between, kept, roomFor, newAfter, newBy, wordBy}
 
 -- a sheet on which one name more is entered
 pub holds-entered : (text : List ℕ) (s : Sheet) (cs : List Cell) (ws : List Word) (at long : ℕ) (w : Word)
@@ -43,38 +43,38 @@ grown-step : (vs us : List Word) (w : Word) → grown vs (w ∷ us) ≡ grown (c
 unfolding grown
 grown-step vs us w = refl
 
-pub grown-done : (ags : List Agent) (skip vs : List Word) → grown vs (kept ags skip []) ≡ vs
+pub grown-done : (ags : List Agent) (vs : List Word) → grown vs (kept ags []) ≡ vs
 unfolding grown kept keep
-grown-done ags skip vs = refl
+grown-done ags vs = refl
 
 -- After a word: a sheet that holds names from which the others grow; or more names than the limit, whatever follows.
-module _ (text : List ℕ) (ags : List Agent) (skip : List Word) (limit : ℕ) (cs : List Cell) (vs : List Word) (w : Word) where
+module _ (text : List ℕ) (ags : List Agent) (limit : ℕ) (cs : List Cell) (vs : List Word) (w : Word) where
   pub record Taken (s : Sheet) : Type 0 where
     pub names : List Word
     pub holds : Holds text s cs names
     pub few : length names ≤ limit
-    pub grows : (us : List Word) → grown vs (kept ags skip (w ∷ us)) ≡ grown names (kept ags skip us)
+    pub grows : (us : List Word) → grown vs (kept ags (w ∷ us)) ≡ grown names (kept ags us)
 
   unfoldable pub After : Done Bool → Type 0
   After (done true s) = Taken s
-  After (done false s) = (us : List Word) → limit < length (grown vs (kept ags skip (w ∷ us)))
+  After (done false s) = (us : List Word) → limit < length (grown vs (kept ags (w ∷ us)))
 
-module _ (text : List ℕ) (ags : List Agent) (skip : List Word) (limit : ℕ) (small : limit ≤ net-names-max) (s : Sheet)
+module _ (text : List ℕ) (ags : List Agent) (limit : ℕ) (small : limit ≤ net-names-max) (s : Sheet)
     (cs : List Cell) (vs : List Word) (h : Holds text s cs vs) (few : length vs ≤ limit) (at end : ℕ) (near : at < text-max)
     (short : end - at ≤ identifier-max) where
   abbrev w : Word
   w = between text at end
 
   abbrev Next : Done Bool → Type 0
-  Next = After text ags skip limit cs vs w
+  Next = After text ags limit cs vs w
 
   -- a word left out
-  out : left ags skip w ≡ true → Next (done true s)
+  out : declared ags w ≡ true → Next (done true s)
   unfolding After kept keep
   out e = record { names = vs; holds = h; few = few; grows = λ us. rw e }
 
-  module _ (stays : left ags skip w ≡ false) where
-    keeps : (us : List Word) → kept ags skip (w ∷ us) ≡ w ∷ kept ags skip us
+  module _ (stays : declared ags w ≡ false) where
+    keeps : (us : List Word) → kept ags (w ∷ us) ≡ w ∷ kept ags us
     unfolding kept keep
     keeps us = rw stays
 
@@ -82,7 +82,7 @@ module _ (text : List ℕ) (ags : List Agent) (skip : List Word) (limit : ℕ) (
     unfolding After
     old e = record { names = vs; holds = h; few = few; grows = λ us. rw (keeps us, grown-step, e) }
 
-    grows : among w vs ≡ false → (us : List Word) → grown vs (kept ags skip (w ∷ us)) ≡ grown (vs ++ (w ∷ [])) (kept ags skip us)
+    grows : among w vs ≡ false → (us : List Word) → grown vs (kept ags (w ∷ us)) ≡ grown (vs ++ (w ∷ [])) (kept ags us)
     grows e us = rw (keeps us, grown-step, e)
 
     longer : length (vs ++ (w ∷ [])) ≡ length vs + 1
@@ -99,7 +99,7 @@ module _ (text : List ℕ) (ags : List Agent) (skip : List Word) (limit : ℕ) (
 
     full : among w vs ≡ false → limit ≤ length vs → Next (done false s)
     unfolding After
-    full e room us = rw (grows e us) (omega (arith, longer, grown-longer (vs ++ (w ∷ [])) (kept ags skip us)))
+    full e room us = rw (grows e us) (omega (arith, longer, grown-longer (vs ++ (w ∷ [])) (kept ags us)))
 
     index : indexOf w (entries text (s .places) (length vs)) ≡ indexOf w vs
     index = ap (indexOf w) (h .names .spelt)
@@ -124,64 +124,18 @@ module _ (text : List ℕ) (ags : List Agent) (skip : List Word) (limit : ℕ) (
     unfolding newBy
     name-after = subst (λ m. Next (newAfter text limit at end m s)) (sym (h .names .count)) counted
 
-  pub word-after : Next (wordBy text ags skip limit at end s)
+  pub word-after : Next (wordBy text ags limit at end s)
   unfolding wordBy
-  word-after = go (left ags skip w) refl
+  word-after = go (declared ags w) refl
     where
-      go : (t : Bool) → left ags skip w ≡ t → Next (cond t (done true s) (newBy text limit at end s))
+      go : (t : Bool) → declared ags w ≡ t → Next (cond t (done true s) (newBy text limit at end s))
       go true e = out e
       go false e = name-after e
 
--- Which words are kept: with nothing passed over, the names.
-keep-same : {A : Type 0} (f g : A → Bool) → ((x : A) → f x ≡ g x) → (xs : List A) → keep f xs ≡ keep g xs
-unfolding keep
-keep-same f g e [] = refl
-keep-same f g e (x ∷ xs) = rw (e x, keep-same f g e xs)
-
-pub kept-names : (ags : List Agent) (ts : List Term) → kept ags [] (wordsOf (nodes ts)) ≡ namesOf ags ts
-unfolding kept left namesOf among any
-kept-names ags ts =
-    keep-same (λ w. not (declared ags w || false)) (λ w. not (declared ags w)) (λ w. go (declared ags w)) (wordsOf (nodes ts))
-  where
-    go : (t : Bool) → not (t || false) ≡ not t
-    go true = refl
-    go false = refl
-
--- With the words of the two left fields passed over, the names on the right that stand nowhere on the left.
-name-among : (ags : List Agent) (w : Word) (ls : List Word) → declared ags w ≡ false
-    → among w (keep (λ v. not (declared ags v)) ls) ≡ among w ls
-unfolding among any keep
-name-among ags w [] h = refl
-name-among ags w (v ∷ ls) h = go (declared ags v) (same w v) refl refl (name-among ags w ls h)
-  where
-    go : (t u : Bool) → declared ags v ≡ t → same w v ≡ u
-        → any (same w) (keep (λ x. not (declared ags x)) ls) ≡ any (same w) ls
-        → any (same w) (cond (not (declared ags v)) (v ∷ keep (λ x. not (declared ags x)) ls) (keep (λ x. not (declared ags x)) ls))
-        ≡ (same w v || any (same w) ls)
-    go true true p q ih = never (sym h ∙ (ap (declared ags) (same-eq w v q) ∙ p))
-    go true false p q ih = rw (p, q) ih
-    go false u p q ih = rw (p, ih)
-
-kept-twice : (ags : List Agent) (ls ws : List Word) → keep (λ w. not (declared ags w || among w ls)) ws
-    ≡ keep (λ w. not (among w (keep (λ v. not (declared ags v)) ls))) (keep (λ w. not (declared ags w)) ws)
-unfolding keep
-kept-twice ags ls [] = refl
-kept-twice ags ls (w ∷ ws) = go (declared ags w) refl (kept-twice ags ls ws)
-  where
-    go : (t : Bool) → declared ags w ≡ t
-        → keep (λ v. not (declared ags v || among v ls)) ws
-        ≡ keep (λ v. not (among v (keep (λ x. not (declared ags x)) ls))) (keep (λ v. not (declared ags v)) ws)
-        → cond (not (declared ags w || among w ls)) (w ∷ keep (λ v. not (declared ags v || among v ls)) ws)
-        (keep (λ v. not (declared ags v || among v ls)) ws)
-        ≡ keep (λ v. not (among v (keep (λ x. not (declared ags x)) ls)))
-        (cond (not (declared ags w)) (w ∷ keep (λ v. not (declared ags v)) ws) (keep (λ v. not (declared ags v)) ws))
-    go true d ih = rw d ih
-    go false d ih = rw (d, name-among ags w ls d, ih)
-
-pub kept-new : (ags : List Agent) (ls rs : List Term)
-    → kept ags (wordsOf (nodes ls)) (wordsOf (nodes rs)) ≡ keep (λ w. not (among w (namesOf ags ls))) (namesOf ags rs)
-unfolding kept left namesOf
-kept-new ags ls rs = kept-twice ags (wordsOf (nodes ls)) (wordsOf (nodes rs))
+-- Of the words of terms, their names are kept.
+pub kept-names : (ags : List Agent) (ts : List Term) → kept ags (wordsOf (nodes ts)) ≡ namesOf ags ts
+unfolding kept namesOf
+kept-names ags ts = refl
 
 -- No identifier that is too long among the words of terms within their sizes.
 pub small-words : (ns : List Node) → any bigNode ns ≡ false → any tooLong (wordsOf ns) ≡ false

@@ -1,26 +1,25 @@
--- What entering the names of a line's fields means, where they spell terms: for a net, and for a rule's right side.
+-- What entering the names of a line's fields means, where they spell terms.
 use Prim.Native.Nat.{ℕ, zero, suc, _+_, _-_, _≤_}
 use mathlib.Core.Path.{_≡_, sym, ap, _∙_}
-use mathlib.Core.Bool.{Bool, false, not}
+use mathlib.Core.Bool.{Bool, false}
 use mathlib.Core.List.{List, [], _∷_}
 use mathlib.Core.Option.{some}
 use native.Mathlib.Omega.{arith}
-use lib.ListN.{length, take, drop, length-take}
-use lib.Seq.{take-nil, take-take, drop-drop}
+use lib.ListN.{length, take, drop}
+use lib.Seq.{take-nil, drop-drop}
 use Rattle.parts.specs.Limits.{text-max}
 use Rattle.model.specs.Table.{Cell}
-use Rattle.texts.specs.Bytes.{Word, any, keep, among, fields}
+use Rattle.texts.specs.Bytes.{Word, any, fields}
 use Rattle.texts.specs.Terms.{Term, nodes, wordsOf}
 use Rattle.texts.specs.Books.{Agent, namesOf}
 use Rattle.texts.specs.RuleText.{termsOf, bigNode}
 use Rattle.scan.specs.Cutting.{fieldStart}
 use Rattle.scan.specs.Words.{wordsIn}
-use Rattle.scan.specs.Laws.Cutting.{start-le}
 use Rattle.terms.specs.Sheet.{Sheet}
 use Rattle.terms.specs.Meaning.{Holds, grown}
 use Rattle.lines.specs.Names.{between, kept, Ready, Within, Entered}
-use Rattle.lines.specs.Laws.Words.{words-none, part-words, between-words}
-use Rattle.lines.specs.Laws.Names.{kept-names, kept-new, small-words}
+use Rattle.lines.specs.Laws.Words.{part-words}
+use Rattle.lines.specs.Laws.Names.{kept-names, small-words}
 
 pub drop-take : (b m : ℕ) (l : List ℕ) → drop b (take m l) ≡ take (m - b) (drop b l)
 drop-take zero m l = let z : m - 0 ≡ m = omega arith in rw z
@@ -36,15 +35,6 @@ module _ (text line : List ℕ) (at end : ℕ) (is : line ≡ between text at en
       let z : end - (at + i) ≡ end - at - i = omega arith in
       rw (z, ← drop-drop i at text) (sym (drop-take i (end - at) (drop at text))) ∙ ap (drop i) (sym is)
 
-  -- its part from one place to another
-  pub part-of : (i j : ℕ) → j ≤ length line → between text (at + i) (at + j) ≡ take (j - i) (drop i line)
-  part-of i j h =
-      let l : length line ≤ end - at = omega (arith, ap length is, length-take (end - at) (drop at text)) in
-      let z : at + j - (at + i) ≡ j - i = omega arith in
-      rw (z, ← drop-drop i at text)
-      (sym (take-take (j - i) (end - at - i) (drop i (drop at text)) (omega arith))
-      ∙ ap (take (j - i)) (sym (drop-take i (end - at) (drop at text)) ∙ ap (drop i) (sym is)))
-
   module _ (ags : List Agent) (limit : ℕ) (r : Bool) (s s₁ : Sheet) (cs : List Cell) (ws : List Word)
       (h : Holds text s cs ws) (short : length text ≤ text-max) where
     -- the part from field k on
@@ -56,28 +46,9 @@ module _ (text line : List ℕ) (at end : ℕ) (is : line ≡ between text at en
       ready : Ready text (between text (at + fieldStart line k) end) s cs ws
       ready = record { holds = h; short = short; small = rw words (small-words (nodes ts) small) }
 
-      -- Nothing passed over: the names of the terms are entered.
-      pub names-entered : (a : ℕ)
-          → Entered text ags (wordsIn (between text a a)) limit (between text (at + fieldStart line k) end) r s s₁
+      -- the names of the terms are entered
+      pub names-entered : Entered text ags limit (between text (at + fieldStart line k) end) r s s₁
           → Within text limit r s₁ cs (grown ws (namesOf ags ts))
-      names-entered a e =
-          let z : wordsIn (between text a a) ≡ [] = nothing a in
-          let q : kept ags (wordsIn (between text a a)) (wordsIn (between text (at + fieldStart line k) end)) ≡ namesOf ags ts =
-          rw (z, words) (kept-names ags ts) in
-          rw (← q) (e .means cs ws ready)
-        where
-          nothing : (a : ℕ) → wordsIn (between text a a) ≡ []
-          nothing a = let y : a - a ≡ 0 = omega arith in rw y words-none
-
-      -- Some fields passed over: the names that stand nowhere in them are entered.
-      pub new-entered : (i m : ℕ) (ls : List Term) → termsOf (take m (drop i (fields line))) ≡ some ls
-          → Entered text ags (wordsIn (between text (at + fieldStart line i) (at + fieldStart line (i + m)))) limit
-          (between text (at + fieldStart line k) end) r s s₁
-          → Within text limit r s₁ cs (grown ws (keep (λ w. not (among w (namesOf ags ls))) (namesOf ags ts)))
-      new-entered i m ls p e =
-          let z : wordsIn (between text (at + fieldStart line i) (at + fieldStart line (i + m))) ≡ wordsOf (nodes ls) =
-          ap wordsIn (part-of (fieldStart line i) (fieldStart line (i + m)) (start-le line (i + m))) ∙ between-words line i m ls p in
-          let q : kept ags (wordsIn (between text (at + fieldStart line i) (at + fieldStart line (i + m))))
-          (wordsIn (between text (at + fieldStart line k) end))
-          ≡ keep (λ w. not (among w (namesOf ags ls))) (namesOf ags ts) = rw (z, words) (kept-new ags ls ts) in
+      names-entered e =
+          let q : kept ags (wordsIn (between text (at + fieldStart line k) end)) ≡ namesOf ags ts = rw words (kept-names ags ts) in
           rw (← q) (e .means cs ws ready)

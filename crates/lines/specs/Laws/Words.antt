@@ -1,15 +1,15 @@
 -- The words of a part of a line are those of its fields, and where the fields spell terms those of the terms.
-use Prim.Native.Nat.{ℕ, zero, suc, _+_, _-_, _≤_}
+use Prim.Native.Nat.{ℕ, zero, suc, _+_, _≤_}
 use mathlib.Core.Path.{_≡_, refl, sym, ap, _∙_}
-use mathlib.Core.Bool.{Bool, true, false, cond, not}
+use mathlib.Core.Bool.{Bool, true, false, cond}
 use mathlib.Core.List.{List, [], _∷_, _++_, append-assoc, append-nil, map, map-append}
 use mathlib.Core.Option.{some}
 use native.Mathlib.Omega.{arith}
 use lib.ListN.{length, take, drop, length-append}
-use lib.Seq.{take-nil, drop-nil, take-all, drop-length, drop-append-add, take-append-add}
+use lib.Seq.{drop-nil, take-all, drop-length, drop-append-add, take-append-add}
 use Rattle.texts.specs.Bytes.{Word, keep, fields, letter, digit, wordByte}
 use Rattle.texts.specs.Terms.{Term, nodes, wordsOf}
-use Rattle.texts.specs.Books.{Agent, declared, cellsOf, namesOf}
+use Rattle.texts.specs.Books.{Agent, declared, cellsOf}
 use Rattle.texts.specs.RuleText.{termsOf}
 use Rattle.texts.specs.Proofs.Splitting.{fields-cons, fields-last}
 use Rattle.texts.specs.Proofs.Means.{spell-terms}
@@ -77,38 +77,6 @@ words-take l (suc m) = go (cut l) (λ r. words-take r m)
 past-one : (l : Word) (k : ℕ) → drop (suc k) (l ∷ []) ≡ []
 past-one l k = drop-nil k
 
--- The part of m fields from field k on.
-pub words-between : (l : List ℕ) (k m : ℕ)
-    → wordsIn (take (fieldStart l (k + m) - fieldStart l k) (drop (fieldStart l k) l)) ≡ wordsOfAll (take m (drop k (fields l)))
-unfolding wordsOfAll
-words-between l zero m =
-    let z : 0 + m ≡ m = omega arith in
-    let y : fieldStart l m - 0 ≡ fieldStart l m = omega arith in
-    rw (start-zero, z, y) (words-take l m)
-words-between l (suc k) m = go (cut l) (λ r. words-between r k m)
-  where
-    go : Cut l → ((r : List ℕ)
-        → wordsIn (take (fieldStart r (k + m) - fieldStart r k) (drop (fieldStart r k) r)) ≡ wordsOfAll (take m (drop k (fields r))))
-        → wordsIn (take (fieldStart l (suc k + m) - fieldStart l (suc k)) (drop (fieldStart l (suc k)) l))
-        ≡ wordsOfAll (take m (drop (suc k) (fields l)))
-    go (more f rest ok e) ih =
-        let z : suc k + m ≡ suc (k + m) = omega arith in
-        let y : length f + suc (fieldStart rest (k + m)) - (length f + suc (fieldStart rest k)) ≡ fieldStart rest (k + m) - fieldStart rest k =
-        omega arith in
-        rw (
-          e,
-          z,
-          fields-cons f rest ok,
-          start-more f rest (k + m) ok,
-          start-more f rest k ok,
-          y,
-          drop-append-add f (9 ∷ rest) (suc (fieldStart rest k)),
-        )
-        (ih rest)
-    go (only ok) ih =
-        let z = take-nil {A = ℕ} (fieldStart l (suc k + m) - length l) in
-        rw (fields-last l ok, start-only l k ok, drop-length l, past-one l k, take-nil {A = Word} m, z) words-none
-
 -- past the last field the line ends
 starts-end : (l : List ℕ) (k : ℕ) → length (fields l) ≤ k → length l ≤ fieldStart l k
 starts-end l zero h = absurd (go (cut l))
@@ -162,12 +130,3 @@ module _ (l : List ℕ) (k : ℕ) (ts : List Term) (h : termsOf (drop k (fields 
   pub part-cells : (ags : List Agent) → keep (declared ags) (wordsIn (drop (fieldStart l k) l)) ≡ cellsOf ags ts
   unfolding cellsOf
   part-cells ags = ap (keep (declared ags)) part-words
-
-  pub part-names : (ags : List Agent) → keep (λ w. not (declared ags w)) (wordsIn (drop (fieldStart l k) l)) ≡ namesOf ags ts
-  unfolding namesOf
-  part-names ags = ap (keep (λ w. not (declared ags w))) part-words
-
--- The same of m fields from field k on.
-pub between-words : (l : List ℕ) (k m : ℕ) (ts : List Term) → termsOf (take m (drop k (fields l))) ≡ some ts
-    → wordsIn (take (fieldStart l (k + m) - fieldStart l k) (drop (fieldStart l k) l)) ≡ wordsOf (nodes ts)
-between-words l k m ts h = words-between l k m ∙ words-terms (take m (drop k (fields l))) ts h

@@ -16,11 +16,14 @@ use Rattle.calculus.specs.Terms.{Conf}
 use Rattle.parts.specs.Limits.{rule-equations-max}
 use Rattle.model.specs.State.{St, bound}
 use Rattle.model.specs.Table.{Table}
-use Rattle.model.specs.Step.{refused, moved, stepped, Answer}
-use Rattle.model.specs.Sound.{Sound, SoundTable, meaning, book}
-use Rattle.model.specs.Load.{NetReads, loaded, Net}
-use Rattle.model.specs.Agree.{EndsAt, Agrees, after, GoesOn, Finishes}
-use Rattle.model.specs.Walk.{take, steps-in, Walk, uses-in, stay, made-in}
+use Rattle.model.specs.Step.{refused, moved, Answer}
+use Rattle.model.specs.Stepped.{stepped}
+use Rattle.model.specs.Sound.{Sound, meaning, book}
+use Rattle.model.specs.SoundTable.{SoundTable}
+use Rattle.model.specs.Load.{loaded, Net}
+use Rattle.model.specs.NetReads.{NetReads}
+use Rattle.model.specs.Agree.{Agrees, after, GoesOn, Finishes, steps-in, uses-in}
+use Rattle.model.specs.Walk.{take, Walk, stay, made-in, EndsAt}
 use Rattle.model.specs.Proofs.Books.{book-sound}
 use Rattle.model.specs.Proofs.Ended.{nothing-applies}
 use Rattle.model.specs.Proofs.Loaded.{load-means, load-sound, one-meaning}

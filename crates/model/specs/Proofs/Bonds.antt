@@ -9,9 +9,11 @@ use lib.Seq.{getD-set-same, getD-set-other}
 use Rattle.calculus.specs.Proofs.Perm.{perm-refl, perm-sym, perm-append-left, perm-append-right, perm-exchange}
 use Rattle.calculus.specs.Proofs.Perm.{perm-of-eq}
 use Rattle.calculus.specs.Terms.{Perm, none, keep, step}
-use Rattle.parts.specs.Sides.{Side, name, cell, Pair, _:=_, side-code}
+use Rattle.parts.specs.Sides.{Side, name, cell, Pair, _:=_}
+use Rattle.parts.specs.Codes.{side-code}
 use Rattle.model.specs.State.{bound}
-use Rattle.model.specs.Step.{drop-bond, joined}
+use Rattle.model.specs.Step.{joined}
+use Rattle.model.specs.Follow.{drop-bond}
 use Rattle.model.specs.Reading.{bonds, link, bond-at}
 use Rattle.model.specs.Sound.{Mutual}
 use Rattle.model.specs.Proofs.Parts.{PairSides, PairSides-equivalence, turn}

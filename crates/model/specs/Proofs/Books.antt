@@ -8,7 +8,8 @@ use Rattle.calculus.specs.Terms.{Eqn, _==_}
 use Rattle.parts.specs.Sides.{Pair}
 use Rattle.model.specs.Table.{Cell, Entry, Table}
 use Rattle.model.specs.Reading.{ReadsAll, no-pairs, pairs}
-use Rattle.model.specs.Sound.{Means, SoundTable, book, Sound}
+use Rattle.model.specs.Sound.{Means, book, Sound}
+use Rattle.model.specs.SoundTable.{SoundTable}
 use Rattle.model.specs.Proofs.Cells.{one-outcome}
 use Rattle.calculus.specs.Calculus as C
 

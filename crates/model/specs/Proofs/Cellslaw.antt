@@ -10,8 +10,10 @@ use Rattle.calculus.specs.Order.{uses}
 use Rattle.calculus.specs.Terms.{δ}
 use Rattle.model.specs.State.{St, used}
 use Rattle.model.specs.Table.{no-entry, Table, entry}
-use Rattle.model.specs.Sound.{Sound, SoundTable}
-use Rattle.model.specs.Walk.{Walk, below, steps-in, made-in, uses-in}
+use Rattle.model.specs.Sound.{Sound}
+use Rattle.model.specs.SoundTable.{SoundTable}
+use Rattle.model.specs.Walk.{Walk, below, made-in}
+use Rattle.model.specs.Agree.{steps-in, uses-in}
 use Rattle.model.specs.Proofs.Moves.{right-cells}
 use Rattle.model.specs.Proofs.Sums.{below-ext, below-zero, below-plus, below-one}
 use Rattle.model.specs.Proofs.Walks.{walked, Walked}

@@ -8,14 +8,15 @@ use lib.Seq.{getD-set-same, getD-set-other}
 use Rattle.calculus.specs.Proofs.Count.{δ-same, δ-other, sum-append}
 use Rattle.calculus.specs.Terms.{none, keep, swap, step, names, eqs-names, δ, count, sum, Terms, Eqn}
 use Rattle.parts.specs.Limits.{arity-max, cells-max}
-use Rattle.parts.specs.Sides.{side, code-side, _:=_, Pair, name, cell, Side}
+use Rattle.parts.specs.Sides.{side, _:=_, Pair, name, cell, Side}
+use Rattle.parts.specs.Codes.{code-side}
 use Rattle.model.specs.State.{St, listed, bound, bond}
 use Rattle.model.specs.Table.{Table, Cell}
-use Rattle.model.specs.Step.{drop-bond}
+use Rattle.model.specs.Follow.{drop-bond, hop, hops}
 use Rattle.model.specs.Reading.{bonds, by-name, ReadsAll, by-cell, Reads, Whole}
 use Rattle.model.specs.Sound.{Mutual, sides, pool, live, width, mem-of}
 use Rattle.model.specs.Test.{sides-of, is-name, times, occurrences}
-use Rattle.model.specs.Walk.{hop, below, hops}
+use Rattle.model.specs.Walk.{below}
 use Rattle.model.specs.Proofs.Bonds.{mutual-drop, _≃_, bonds-drop}
 use Rattle.model.specs.Proofs.Ended.{unbound, touched}
 use Rattle.model.specs.Proofs.Parts.{turn, same, PairSides}

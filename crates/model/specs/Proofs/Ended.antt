@@ -10,17 +10,19 @@ use lib.Seq.{getD-set-same, getD-set-other}
 use Rattle.calculus.specs.Calculus.{Book, Step}
 use Rattle.calculus.specs.Descent.{Normal}
 use Rattle.calculus.specs.Proofs.Count.{δ-other, first-term, rest-terms}
-use Rattle.calculus.specs.Proofs.Ended.{touch, touches, All, Cells, Idle, touches-∼, touches-append, touch-count}
+use Rattle.calculus.specs.Proofs.Ended.{All, Cells, Idle, touches-∼, touches-append, touch-count}
 use Rattle.calculus.specs.Proofs.Ended.{All-∼, All-append, All-map, named-idle, ended-normal}
 use Rattle.calculus.specs.Proofs.Sub.{Sides-equivalence, back}
-use Rattle.calculus.specs.Terms.{_∼_, none, keep, swap, step, var, node, Term, Terms, Eqn, _==_, Sides}
+use Rattle.calculus.specs.Terms.{_∼_, none, keep, swap, step, var, node, Term, Terms, Eqn, _==_, Sides, touch, touches}
 use Rattle.parts.specs.Limits.{names-max}
-use Rattle.parts.specs.Sides.{Side, name, cell, Pair, _:=_, code-side, side}
+use Rattle.parts.specs.Sides.{Side, name, cell, Pair, _:=_, side}
+use Rattle.parts.specs.Codes.{code-side}
 use Rattle.model.specs.State.{St, unpack, bound, listed}
 use Rattle.model.specs.Table.{Cell, Table, Found, find, entry}
 use Rattle.model.specs.Reading.{circles, Reads, by-name, by-cell, ReadsAll, no-pairs, pairs, link, bond-at}
 use Rattle.model.specs.Reading.{bonds, pool-of}
-use Rattle.model.specs.Sound.{Mutual, SoundTable, book, Sound, AllHeld, mem-of, meaning, pool}
+use Rattle.model.specs.Sound.{Mutual, book, Sound, AllHeld, mem-of, meaning, pool}
+use Rattle.model.specs.SoundTable.{SoundTable}
 use Rattle.model.specs.Test.{is-name}
 use Rattle.model.specs.Proofs.Bonds.{_≃_, ≃-refl, bonds-drop, mutual-drop}
 use Rattle.model.specs.Proofs.Parts.{PairSides, Part, part, turn, same}

@@ -7,7 +7,8 @@ use lib.ListN.{length, getD, take, drop, set, length-append, length-drop, length
 use lib.ListN.{List·getD-append}
 use lib.Seq.{getD-append-add, getD-take, getD-drop, getD-set-same, getD-set-other, length-take-le}
 use Rattle.calculus.specs.Proofs.Perm.{Ins, here, there}
-use Rattle.parts.specs.Sides.{Pair, code, side, side-code, _:=_}
+use Rattle.parts.specs.Sides.{Pair, code, side, _:=_}
+use Rattle.parts.specs.Codes.{side-code}
 use Rattle.model.specs.State.{equation, unpack, pushed, pushed-all, pulled, used, zeros}
 
 -- Words and sides.

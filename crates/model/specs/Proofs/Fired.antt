@@ -20,7 +20,8 @@ use Rattle.model.specs.Table.{Cell, Entry, Table, Found, straight, turne
 use Rattle.model.specs.Step.{inst-pair, new-cells, new-names, env, alloc, write-symbols}
 use Rattle.model.specs.Step.{write-arguments, set-bare, zero-cell, copies, fired, Room, symbol-of}
 use Rattle.model.specs.Reading.{ReadsAll, bonds, pool-of, circles, Whole}
-use Rattle.model.specs.Sound.{Mutual, cell-at, live, SoundEntry, SoundTable, book, AllHeld, mem-of, sides}
+use Rattle.model.specs.Sound.{Mutual, cell-at, live, book, AllHeld, mem-of, sides}
+use Rattle.model.specs.SoundTable.{SoundEntry, SoundTable}
 use Rattle.model.specs.Proofs.Bonds.{_≃_, ≃-of, turn-round}
 use Rattle.model.specs.Proofs.Facts.{length-pushed-all, getD-pushed-all, unpack-pushed-all}
 use Rattle.model.specs.Proofs.Fire.{Template, two-cells, Fires, Fired, fire}

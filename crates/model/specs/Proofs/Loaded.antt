@@ -18,8 +18,10 @@ use Rattle.model.specs.State.{St, unpack, pushed-all, used, zeros, from}
 use Rattle.model.specs.Table.{Cell, Table, no-cell}
 use Rattle.model.specs.Step.{write-symbols, write-arguments, set-bare}
 use Rattle.model.specs.Reading.{Reads, ReadsAll, bonds, pool-of, circles}
-use Rattle.model.specs.Sound.{Mutual, width, cell-at, live, SoundTable, Sound, meaning}
-use Rattle.model.specs.Load.{loaded, NetReads, Net}
+use Rattle.model.specs.Sound.{Mutual, width, cell-at, live, Sound, meaning}
+use Rattle.model.specs.SoundTable.{SoundTable}
+use Rattle.model.specs.Load.{loaded, Net}
+use Rattle.model.specs.NetReads.{NetReads}
 use Rattle.model.specs.Proofs.Books.{one-reading}
 use Rattle.model.specs.Proofs.Cells.{frame, one-outcome}
 use Rattle.model.specs.Proofs.Cellwork.{copiedʷ, zerosʷ, declaredʷ}

@@ -4,7 +4,8 @@ use mathlib.Core.List.{List, [], _∷_}
 use Prim.Native.Nat.{ℕ, zero, suc, _+_, _*_, _-_, _≤_, _<_, min}
 use native.Mathlib.Omega.{arith}
 use lib.ListN.{length, getD, take, drop, set}
-use Rattle.parts.specs.Sides.{_:=_, code, side, code-side}
+use Rattle.parts.specs.Sides.{_:=_, code, side}
+use Rattle.parts.specs.Codes.{code-side}
 use Rattle.model.specs.State.{used, pushed, lowest}
 
 -- Counting the places in use, from the start.

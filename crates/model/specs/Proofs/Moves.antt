@@ -13,7 +13,7 @@ use Rattle.model.specs.State.{St, used}
 use Rattle.model.specs.Table.{Entry, Table, Found, straight, turned, entry}
 use Rattle.model.specs.Step.{Answer, moved, refused}
 use Rattle.model.specs.Sound.{Sound, meaning}
-use Rattle.model.specs.Walk.{Coms}
+use Rattle.model.specs.Follow.{Coms}
 use Rattle.model.specs.Proofs.Read.{Read}
 use Rattle.calculus.specs.Calculus as C
 

@@ -3,7 +3,7 @@ use mathlib.Core.Path.{_≡_, refl, _∙_}
 use mathlib.Core.List.{List, [], _∷_, _++_}
 use Prim.Native.Nat.{ℕ, _+_}
 use native.Mathlib.Omega.{arith}
-use Rattle.calculus.specs.Descent.{Equivalence}
+use Rattle.calculus.specs.Proofs.Diamond.{Equivalence}
 use Rattle.calculus.specs.Proofs.Count.{sum-append, first-term, rest-terms}
 use Rattle.calculus.specs.Proofs.Perm.{perm-sym}
 use Rattle.calculus.specs.Proofs.Sub.{whole, on}

@@ -15,9 +15,10 @@ use Rattle.parts.specs.Limits.{cells-max, names-max}
 use Rattle.parts.specs.Sides.{Side, name, cell, Pair, _:=_, side}
 use Rattle.model.specs.State.{St, equation, unpack, pulled, bound, listed}
 use Rattle.model.specs.Table.{Cell, Table}
-use Rattle.model.specs.Step.{drop-bond}
+use Rattle.model.specs.Follow.{drop-bond}
 use Rattle.model.specs.Reading.{Reads, by-name, by-cell, ReadsAll, no-pairs, pairs, bonds, pool-of}
-use Rattle.model.specs.Sound.{width, SoundTable, Sound, mem-of, sides, pool}
+use Rattle.model.specs.Sound.{width, Sound, mem-of, sides, pool}
+use Rattle.model.specs.SoundTable.{SoundTable}
 use Rattle.model.specs.Proofs.Bonds.{_≃_, ≃-sym, Within, bonds-drop}
 use Rattle.model.specs.Proofs.Cellwork.{width-small}
 use Rattle.model.specs.Proofs.Facts.{unpack-pulled}

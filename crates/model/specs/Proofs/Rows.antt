@@ -7,10 +7,13 @@ use native.Mathlib.Omega.{arith}
 use lib.ListN.{getD, set, length-set}
 use lib.Seq.{getD-set-same, getD-set-other, set-set, set-comm}
 use Rattle.parts.specs.Limits.{loops-max}
-use Rattle.parts.specs.Sides.{Side, name, cell, _:=_, side-code}
+use Rattle.parts.specs.Sides.{Side, name, cell, _:=_}
+use Rattle.parts.specs.Codes.{side-code}
 use Rattle.model.specs.State.{St, bound, to, bond, with-names, with-loops}
-use Rattle.model.specs.Step.{Answer, moved, refused, put, Followed, drop-bond, follow-by, follow, looped}
-use Rattle.model.specs.Step.{joined, fasten, wire}
+use Rattle.model.specs.Step.{Answer, moved, refused, put}
+use Rattle.model.specs.Follow.{Followed, drop-bond, follow-by, follow}
+use Rattle.model.specs.Stepped.{looped, fasten, wire}
+use Rattle.model.specs.Step.{joined}
 use Rattle.model.specs.Sound.{Mutual}
 use Rattle.model.specs.Proofs.Pool.{in-range}
 

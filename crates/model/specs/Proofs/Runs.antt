@@ -9,12 +9,14 @@ use Rattle.parts.specs.Limits.{names-max, waiting-max, loops-max}
 use Rattle.parts.specs.Sides.{Side, name, cell, Pair, _:=_}
 use Rattle.model.specs.State.{St, equation, used, with-names, with-loops}
 use Rattle.model.specs.Table.{Entry, Table, Found, none, straight, turned}
-use Rattle.model.specs.Step.{Answer, moved, refused, taken-out, held, fired, Room, room, fire-if, rule-of, meet}
-use Rattle.model.specs.Step.{follow, looped, joined, fasten, act, place, rule-at, stepped, picked}
-use Rattle.model.specs.Run.{one-made, ended, paused, noroom, Ran, run, ran, stopped}
-use Rattle.model.specs.Sound.{SoundTable, book, Sound, meaning}
-use Rattle.model.specs.Agree.{AtHead, Because, Stopped}
-use Rattle.model.specs.Walk.{drops, Walk, stay, take, made-in}
+use Rattle.model.specs.Step.{Answer, moved, refused, taken-out, held, fired, Room, rule-of}
+use Rattle.model.specs.Stepped.{room, fire-if, meet, looped, fasten, act, stepped}
+use Rattle.model.specs.Step.{joined, place, rule-at, picked}
+use Rattle.model.specs.Follow.{follow, drops}
+use Rattle.model.specs.Run.{run, ran, stopped}
+use Rattle.model.specs.Sound.{book, Sound, meaning}
+use Rattle.model.specs.SoundTable.{SoundTable}
+use Rattle.model.specs.Walk.{Walk, stay, take, made-in, one-made, ended, paused, noroom, Ran, AtHead, Because, Stopped}
 use Rattle.model.specs.Proofs.Moves.{Outcome, Moves}
 use Rattle.model.specs.Proofs.Stepped.{step-is-right}
 

@@ -8,7 +8,8 @@ use lib.ListN.{getD}
 use Rattle.calculus.specs.Proofs.Count.{δ-same, sum-append, first-term, rest-terms}
 use Rattle.calculus.specs.Proofs.Perm.{Ins, perm-ins}
 use Rattle.calculus.specs.Terms.{δ, count, none, Term, Terms, Eqn, names, eqs-names}
-use Rattle.parts.specs.Sides.{name, Pair, _:=_, side, Side, code-side}
+use Rattle.parts.specs.Sides.{name, Pair, _:=_, side, Side}
+use Rattle.parts.specs.Codes.{code-side}
 use Rattle.model.specs.State.{listed, St, pulled, unpack, bound}
 use Rattle.model.specs.Table.{Cell, Table}
 use Rattle.model.specs.Step.{place, picked}

@@ -13,12 +13,15 @@ use Rattle.calculus.specs.Terms.{none, keep, step, Terms, Eqn}
 use Rattle.parts.specs.Limits.{cells-max, names-max, waiting-max, stuck-max}
 use Rattle.parts.specs.Sides.{Side, name, cell, Pair, _:=_}
 use Rattle.model.specs.State.{St, equation, unpack, pushed, pulled, used, listed}
-use Rattle.model.specs.Table.{Cell, Entry, Table, Found, none, straight, turned, both, find, no-entry, entry}
-use Rattle.model.specs.Step.{picked, Answer, moved, refused, taken-out, held, fired, Room, room, fire-if}
-use Rattle.model.specs.Step.{symbol-of, rule-of, meet, act, place, rule-for, rule-at, stepped}
+use Rattle.model.specs.Table.{Cell, Entry, Table, Found, none, straight, turned, find, no-entry, entry}
+use Rattle.model.specs.Proofs.Decisions.{both}
+use Rattle.model.specs.Step.{picked, Answer, moved, refused, taken-out, held, fired, Room}
+use Rattle.model.specs.Stepped.{room, fire-if, meet, act, stepped}
+use Rattle.model.specs.Step.{symbol-of, rule-of, place, rule-for, rule-at}
 use Rattle.model.specs.Reading.{Reads, by-cell, ReadsAll, no-pairs, pairs, bonds, pool-of}
-use Rattle.model.specs.Sound.{Mutual, live, SoundTable, book, Sound, Held, AllHeld, mem-of, meaning, sides}
-use Rattle.model.specs.Walk.{drops}
+use Rattle.model.specs.Sound.{Mutual, live, book, Sound, Held, AllHeld, mem-of, meaning, sides}
+use Rattle.model.specs.SoundTable.{SoundTable}
+use Rattle.model.specs.Follow.{drops}
 use Rattle.model.specs.Proofs.Bonds.{_≃_, ≃-refl, ≃-sym, ≃-of, turn-round}
 use Rattle.model.specs.Proofs.Facts.{length-pushed, getD-pushed, unpack-pushed, length-pulled, pulled-above}
 use Rattle.model.specs.Proofs.Facts.{unpack-pulled}

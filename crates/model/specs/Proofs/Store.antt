@@ -11,7 +11,8 @@ use Rattle.calculus.specs.Proofs.Count.{δ-same, δ-other, δ-cases, sum-perm}
 use Rattle.calculus.specs.Proofs.Perm.{Path-equivalence, Ins, here, there, perm-ins}
 use Rattle.calculus.specs.Proofs.Rules.{Pulled, pull}
 use Rattle.calculus.specs.Terms.{δ, count}
-use Rattle.parts.specs.Sides.{Side, code, side, side-code}
+use Rattle.parts.specs.Sides.{Side, code, side}
+use Rattle.parts.specs.Codes.{side-code}
 use Rattle.model.specs.State.{used, lowest, from}
 use Rattle.model.specs.Table.{Cell, no-cell}
 use Rattle.model.specs.Step.{write-symbols, write-arguments, set-bare, zero-cell}

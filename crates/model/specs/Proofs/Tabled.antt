@@ -7,11 +7,13 @@ use native.Mathlib.Omega.{arith}
 use lib.ListN.{getD, set}
 use lib.Seq.{set-set}
 use Rattle.parts.specs.Limits.{loops-max}
-use Rattle.parts.specs.Sides.{Side, name, cell, Pair, _:=_, side, code-side}
+use Rattle.parts.specs.Sides.{Side, name, cell, Pair, _:=_, side}
+use Rattle.parts.specs.Codes.{code-side}
 use Rattle.model.specs.State.{St, with-names, with-loops, bound, bare}
 use Rattle.model.specs.Table.{Entry, Table, Found, none, straight, turned}
-use Rattle.model.specs.Step.{Answer, moved, refused, held, fired, Room, room, fire-if, rule-of, meet, act}
-use Rattle.model.specs.Step.{place, taken-out, picked, stepped}
+use Rattle.model.specs.Step.{Answer, moved, refused, held, fired, Room, rule-of}
+use Rattle.model.specs.Stepped.{room, fire-if, meet, act, stepped}
+use Rattle.model.specs.Step.{place, taken-out, picked}
 use Rattle.model.specs.Sound.{Mutual, Sound}
 use Rattle.model.specs.Rows.{loop-refused, Row, loop-joined, loop, rule, III-c-0, joined-to, III-e-0, III-0-c}
 use Rattle.model.specs.Rows.{loop-joined-refused, III-0-e, tied-to, III-c-e, III-0-0, no-rule, rule-turned}

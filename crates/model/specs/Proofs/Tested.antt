@@ -10,11 +10,13 @@ use lib.ListN.{length, getD, take, drop, length-map, length-take, List·getD-eq-
 use Rattle.calculus.specs.Proofs.Count.{sum-append}
 use Rattle.calculus.specs.Terms.{Terms, names, eqs-names, δ, count}
 use Rattle.parts.specs.Limits.{arity-max, face-max, cells-max, names-max, waiting-max, stuck-max}
-use Rattle.parts.specs.Sides.{cell, name, side, _:=_, side-code, Side, code-side, Pair}
+use Rattle.parts.specs.Sides.{cell, name, side, _:=_, Side, Pair}
+use Rattle.parts.specs.Codes.{side-code, code-side}
 use Rattle.model.specs.State.{St, listed, bound, bond, zeros, to}
 use Rattle.model.specs.Table.{Found, straight, Table, Cell, turned}
 use Rattle.model.specs.Reading.{Reads, Whole}
-use Rattle.model.specs.Sound.{Mutual, AllHeld, Sizes, Zeros, Sound, SoundTable, width, live, pool, sides}
+use Rattle.model.specs.Sound.{Mutual, AllHeld, Sizes, Zeros, Sound, width, live, pool, sides}
+use Rattle.model.specs.SoundTable.{SoundTable}
 use Rattle.model.specs.Sound.{mem-of}
 use Rattle.model.specs.Test.{blank, every, sides-of, Search, lost, saw, roots, searched, all-seen, reached}
 use Rattle.model.specs.Test.{occurrences, twice, zeroed, declared, answered, both-ways, is-none, unruled, sized}

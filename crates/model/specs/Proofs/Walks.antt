@@ -17,10 +17,13 @@ use Rattle.parts.specs.Limits.{rule-equations-max, names-max}
 use Rattle.parts.specs.Sides.{name, cell, Pair, _:=_, Side}
 use Rattle.model.specs.State.{free, bare, to, St, used, bond, Bond}
 use Rattle.model.specs.Table.{Table, Found}
-use Rattle.model.specs.Step.{rule-at, picked, moved, follow, stepped}
-use Rattle.model.specs.Run.{one-made}
-use Rattle.model.specs.Sound.{SoundTable, book, Sound, meaning}
-use Rattle.model.specs.Walk.{take, steps-in, stay, one-use, Walk, made-in, below, drops, uses-in, hop, hops}
+use Rattle.model.specs.Step.{rule-at, picked, moved}
+use Rattle.model.specs.Follow.{follow, drops, hop, hops}
+use Rattle.model.specs.Stepped.{stepped}
+use Rattle.model.specs.Sound.{book, Sound, meaning}
+use Rattle.model.specs.SoundTable.{SoundTable}
+use Rattle.model.specs.Walk.{take, stay, one-use, Walk, made-in, below, one-made}
+use Rattle.model.specs.Agree.{steps-in, uses-in}
 use Rattle.model.specs.Proofs.Books.{book-sound}
 use Rattle.model.specs.Proofs.Frame.{good-of}
 use Rattle.model.specs.Proofs.Moves.{Outcome, cost, Kind, Moves, wiring, right-cells, by-turned}

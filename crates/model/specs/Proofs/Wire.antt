@@ -12,13 +12,13 @@ use Rattle.calculus.specs.Descent.{Steps, done, more}
 use Rattle.calculus.specs.Proofs.Count.{δ-same, δ-cases, sum-eqs, sum-eqs-append}
 use Rattle.calculus.specs.Proofs.Perm.{perm-append-left, perm-append-right, perm-exchange}
 use Rattle.calculus.specs.Terms.{δ, count, keep, swap, step, eqs-names}
-use Rattle.parts.specs.Sides.{Side, name, cell, Pair, _:=_, side, code-side}
+use Rattle.parts.specs.Sides.{Side, name, cell, Pair, _:=_, side}
+use Rattle.parts.specs.Codes.{code-side}
 use Rattle.model.specs.State.{used, bound, bond}
 use Rattle.model.specs.Table.{Cell}
-use Rattle.model.specs.Step.{Followed, drop-bond, follow-by, follow}
+use Rattle.model.specs.Follow.{Followed, drop-bond, follow-by, follow, hops, hop, Coms}
 use Rattle.model.specs.Reading.{bonds, pool-of}
 use Rattle.model.specs.Sound.{Mutual}
-use Rattle.model.specs.Walk.{hops, hop, Coms}
 use Rattle.model.specs.Proofs.Bonds.{_≃_, ≃-refl, ≃-of, Within, bonds-drop, mutual-drop}
 use Rattle.model.specs.Proofs.Facts.{used-set}
 use Rattle.model.specs.Proofs.Parts.{PairSides, PairSides-equivalence, Part, part, same}

@@ -10,14 +10,17 @@ use Rattle.calculus.specs.Calculus.{Book, Step}
 use Rattle.calculus.specs.Descent.{Steps}
 use Rattle.calculus.specs.Terms.{keep, step, Conf}
 use Rattle.parts.specs.Limits.{rule-equations-max, names-max, waiting-max, loops-max}
-use Rattle.parts.specs.Sides.{Side, name, cell, Pair, _:=_, side, code-side}
+use Rattle.parts.specs.Sides.{Side, name, cell, Pair, _:=_, side}
+use Rattle.parts.specs.Codes.{code-side}
 use Rattle.model.specs.State.{St, unpack, pushed, used, bound, bond, with-names, with-loops, listed}
 use Rattle.model.specs.Table.{Table, Found}
-use Rattle.model.specs.Step.{Answer, moved, refused, put, Followed, drop-bond, follow-by, follow, looped}
-use Rattle.model.specs.Step.{joined, fasten, wire}
+use Rattle.model.specs.Step.{Answer, moved, refused, put}
+use Rattle.model.specs.Follow.{Followed, drop-bond, follow-by, follow, Coms, drops-of}
+use Rattle.model.specs.Stepped.{looped, fasten, wire}
+use Rattle.model.specs.Step.{joined}
 use Rattle.model.specs.Reading.{bond-at, bonds, pool-of}
-use Rattle.model.specs.Sound.{Mutual, SoundTable, book, Sound, meaning, mem-of, live, sides}
-use Rattle.model.specs.Walk.{Coms, drops-of}
+use Rattle.model.specs.Sound.{Mutual, book, Sound, meaning, mem-of, live, sides}
+use Rattle.model.specs.SoundTable.{SoundTable}
 use Rattle.model.specs.Proofs.Bonds.{_≃_, ≃-refl, ≃-sym, ≃-of, bonds-set, bonds-tie, bonds-join, mutual-set}
 use Rattle.model.specs.Proofs.Bonds.{mutual-join}
 use Rattle.model.specs.Proofs.Facts.{used-set, used-alike, unpack-pushed}

@@ -11,12 +11,14 @@ use Rattle.calculus.specs.Calculus.{Rule}
 use Rattle.calculus.specs.Proofs.Count.{δ-same}
 use Rattle.calculus.specs.Terms.{δ, sum, count}
 use Rattle.parts.specs.Limits.{names-max}
-use Rattle.parts.specs.Sides.{Side, name, side, side-code}
+use Rattle.parts.specs.Sides.{Side, name, side}
+use Rattle.parts.specs.Codes.{side-code}
 use Rattle.model.specs.State.{St, used, from}
 use Rattle.model.specs.Table.{Cell, Entry, Table, no-cell, entry}
 use Rattle.model.specs.Step.{inst, inst-cell, new-cells, new-names, quad, env, alloc, write-symbols}
 use Rattle.model.specs.Step.{write-arguments, zero-cell, copies, Room, symbol-of}
-use Rattle.model.specs.Sound.{width, cell-at, live, SoundEntry, SoundTable, mem-of}
+use Rattle.model.specs.Sound.{width, cell-at, live, mem-of}
+use Rattle.model.specs.SoundTable.{SoundEntry, SoundTable}
 use Rattle.model.specs.Proofs.Cellwork.{length₂, args-length₂, live₂, used₁, used₂, copied, kept₂, zeros₂}
 use Rattle.model.specs.Proofs.Cellwork.{declared₂, length₁}
 use Rattle.model.specs.Proofs.Frame.{Framed}

@@ -99,11 +99,11 @@ module _ {text : List ℕ} {ags : List Agent} {at end : ℕ} {over : Bool} {s : 
         cells-judged h = five (net (net-is ∙ or-left _ names-big (or-right over cells-big (sym cells-told ∙ h))))
 
         module _ (nc : c ≡ false) (f : ℕ) (ef : f ≡ fieldStart line 1) (s₁ : Sheet) (e₁ : Bool)
-            (en : Entered text ags (wordsIn (between text (at + f) (at + f))) net-names-max (between text (at + f) end) e₁ s s₁) where
+            (en : Entered text ags net-names-max (between text (at + f) end) e₁ s s₁) where
           within : (zs : List Word) → Within text net-names-max e₁ s₁ (cellsFrom ags (number (named ags ts ++ zs)) 0 (packed ts)) (grown (named ags ts) (namesOf ags us))
           within zs =
               names-entered text line at end is ags net-names-max e₁ s s₁ (cellsFrom ags (number (named ags ts ++ zs)) 0 (packed ts)) (named ags ts) (q .draft .holds zs) (q .fit .short)
-              1 us spelt small (at + f) (subst (λ k. Entered text ags (wordsIn (between text (at + f) (at + f))) net-names-max (between text (at + k) end) e₁ s s₁) ef en)
+              1 us spelt small (subst (λ k. Entered text ags net-names-max (between text (at + k) end) e₁ s s₁) ef en)
 
           names-told : e₁ ≡ leb (length (different (namesOf ags (netTerms m)))) net-names-max
           names-told = entered-told text ags ts us s₁ net-names-max e₁ within ∙ ap (λ l. leb (length l) net-names-max) (sym names-are)

@@ -3,10 +3,10 @@ use Prim.Native.Nat.{ℕ}
 use mathlib.Core.Path.{_≡_, refl, sym, ap, _∙_}
 use mathlib.Core.Bool.{true, cond}
 use mathlib.Core.List.{List, [], _∷_, _++_, List·Memᴰ·head, List·Memᴰ·tail}
-use Rattle.texts.specs.Bytes.{Word, among, different}
+use Rattle.texts.specs.Bytes.{Word, among, different, In}
 use Rattle.texts.specs.Terms.{Term}
 use Rattle.texts.specs.Books.{Agent, namesOf}
-use Rattle.texts.specs.Proofs.Tools.{In, in-among}
+use Rattle.texts.specs.Proofs.Tools.{in-among}
 use Rattle.texts.specs.Proofs.Places.{in-different}
 use Rattle.texts.specs.Proofs.NetMeans.{names-append}
 use Rattle.terms.specs.Meaning.{grown}

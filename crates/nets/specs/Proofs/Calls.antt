@@ -17,17 +17,18 @@ use Rattle.texts.specs.Terms.{nodes, wordsOf}
 use Rattle.texts.specs.Books.{Agent, Book, Net, cellsOf, namesOf, netTerms}
 use Rattle.texts.specs.Answers.{OfText, accepted, refused}
 use Rattle.texts.specs.NetText.{bigNet, netOfLines, readNet, netRead}
-use Rattle.texts.specs.Coded.{Table, tableOf, packed, codes, cellsFrom, cellsAt, load}
+use Rattle.texts.specs.Coded.{Table, tableOf, packed, codes, cellsFrom, cellsAt, load, arityAt}
 use Rattle.texts.specs.Good.{GoodBook}
 use Rattle.texts.specs.Main.{table-book, table-test, net-text-accepted}
-use Rattle.texts.specs.TableTest.{agentOk, arityAt, testTable}
+use Rattle.texts.specs.TableTest.{agentOk, testTable}
 use Rattle.texts.specs.Terms as Terms
 use Rattle.texts.specs.Proofs.Tools.{both, pair, neither, never′, all-mono, same-refl, same-eq}
 use Rattle.texts.specs.Proofs.NetMeans.{net-good-small}
+use Rattle.texts.specs.Proofs.Loads.{cells-nil}
 use Rattle.table.specs.Layout.{agentsIn, bytesOf, tableBytes}
 use Rattle.table.specs.Layout as Layout
 use Rattle.table.specs.Laws.Whole.{FitAgents, FitTable, agents-back, view-bytes, tested-fits}
-use Rattle.table.specs.Testing.{Given}
+use Rattle.table.specs.Given.{Given}
 use Rattle.terms.specs.Agents.{agentsOf}
 use Rattle.terms.specs.Layout.{sheet-size}
 use Rattle.terms.specs.Sheet.{Sheet}
@@ -85,10 +86,6 @@ no-names : (ags : List Agent) → named ags [] ≡ []
 unfolding namesOf keep nodes wordsOf different
 no-names ags = refl
 
-no-cells : (ags : List Agent) → length (cellsOf ags []) ≡ 0
-unfolding cellsOf keep nodes wordsOf
-no-cells ags = refl
-
 draft-none : (text : List ℕ) (ags : List Agent) (sh cs : List ℕ) → length sh ≡ sheet-size → getD sh 0 0 ≡ 0 → getD sh 1 0 ≡ 0 → length cs ≡ face-max + 2 * net-equations-max
     → Draft text ags (Sheets.view sh) cs []
 unfolding packed codes cellsAt nodes any
@@ -98,7 +95,7 @@ draft-none text ags sh cs h c n l =
       codes = λ zs. refl;
       long = l;
       right = refl;
-      few = (let z = no-cells ags in omega (arith, z));
+      few = (let z = cells-nil ags in omega (arith, z));
     }
 
 -- The agents of a sound table.

@@ -9,14 +9,15 @@ use lib.ListN.{length, getD, take, length-map, length-append, List·getD-append}
 use lib.Seq.{getD-take, getD-append-add}
 use borrow.Author.Tests.{eqb-true}
 use Rattle.parts.specs.Limits.{arity-max}
-use Rattle.parts.specs.Sides.{Side, name, Pair, _:=_, code, side, side-code}
+use Rattle.parts.specs.Sides.{Side, name, Pair, _:=_, code, side}
+use Rattle.parts.specs.Codes.{side-code}
 use Rattle.model.specs.Table.{Cell, no-cell}
 use Rattle.model.specs.Load as Loading
 use Rattle.texts.specs.Bytes.{Word, all, different}
 use Rattle.texts.specs.Terms.{Term}
 use Rattle.texts.specs.Books.{Agent, Net, cellsOf, namesOf, sides, netTerms}
-use Rattle.texts.specs.Coded.{packed, twos, codes, cellsFrom, netNumber, load}
-use Rattle.texts.specs.TableTest.{arityAt, cellOk}
+use Rattle.texts.specs.Coded.{packed, twos, codes, cellsFrom, netNumber, load, arityAt}
+use Rattle.texts.specs.TableTest.{cellOk}
 use Rattle.texts.specs.Proofs.Tools.{both}
 use Rattle.texts.specs.Proofs.TableSound.{all-cells-ok}
 use Rattle.texts.specs.Proofs.Loads.{codes-append}

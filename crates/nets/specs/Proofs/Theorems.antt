@@ -22,7 +22,7 @@ use Rattle.texts.specs.Good.{GoodBook, GoodNet}
 use Rattle.texts.specs.Main.{net-text-refused, net-text-accepted, net-loads, table-sound}
 use Rattle.table.specs.Layout.{agentsIn, tableBytes}
 use Rattle.table.specs.Laws.Whole.{agents-back}
-use Rattle.table.specs.Testing.{Given}
+use Rattle.table.specs.Given.{Given}
 use Rattle.nets.specs.Answer.{Call, filled, kept, told, soundTable, callBy, netCall}
 use Rattle.nets.specs.Proofs.Calls.{given-sound, given-agents}
 use Rattle.nets.specs.declared.NetAnswer.{NetAnswer}

@@ -1,46 +1,83 @@
--- A walk of the model made by calls of step, on lent arrays; and calls without end that begin with such calls.
-use Prim.Native.Nat.{ℕ, zero, suc, _<_}
+-- A run made by calls of step, on lent arrays; and calls without end that begin with such calls.
+use Prim.Native.Nat.{ℕ, zero, suc, _-_, _<_}
 use mathlib.Core.Path.{_≡_, refl, sym, ap, subst, _∙_}
 use mathlib.Core.List.{List, [], _∷_}
 use native.Mathlib.Omega.{arith}
 use Rattle.model.specs.State.{St}
-use Rattle.model.specs.Step.{moved, stepped}
-use Rattle.model.specs.Kept.{step-sound}
-use Rattle.model.specs.Stopped.{refused-12}
-use Rattle.model.specs.Walk.{Walk, stay, take}
+use Rattle.model.specs.Step.{moved}
+use Rattle.model.specs.Stepped.{stepped}
+use Rattle.model.specs.Kept.{step-sound, walk-sound}
+use Rattle.model.specs.Stopped.{refused-12, refused-13, run-is-right}
+use Rattle.model.specs.Walk.{Walk, stay, take, made-in, AtHead, Stop, ended, paused, noroom}
+use Rattle.model.specs.Agree.{steps-in}
+use Rattle.model.specs.Walk as Agree
+use Rattle.model.specs.Run.{ran}
 use Rattle.state.specs.Layout.{view}
 use Rattle.sound.specs.Lent.{under}
-use Rattle.lent.specs.Both.{BothSound, sound-table, sound-state}
-use Rattle.machine.specs.Calls.{out, made, answered}
+use Rattle.lent.specs.Both.{BothSound, table-given, sound-table, sound-state, both-of}
+use Rattle.machine.specs.Calls.{out, answered, stopped, run-told}
+use Rattle.machine.specs.Calls as Calls
 use Rattle.machine.specs.declared.calls.StepAnswer.{StepAnswer}
 use Rattle.machine.specs.declared.calls.StepAnswer.the-variants.{Moved, NoPick, NoRoom}
-use Rattle.review.specs.Promises.{StepCall}
-use Rattle.review.specs.Asked.{step-asked}
-use Rattle.review.specs.Arrays.{array-of, view-of-array}
-use Rattle.review.specs.Demand1.{step-made}
-use Rattle.review.specs.Demand2.{left-sound}
-use Rattle.review.specs.Picks.{Moves, none, more, Calls}
-use Rattle.review.specs.Proofs.Steps.{step-apart}
+use Rattle.machine.specs.declared.calls.RunAnswer.{RunAnswer}
+use Rattle.review.specs.Promises.{StepCall, RunCall}
+use Rattle.review.specs.Proofs.Arrays.{array-of, view-of-array}
+use Rattle.review.specs.Picks.{Moves, none, more, made, first-picks, Because, RunSteps, Calls}
+use Rattle.review.specs.Proofs.Steps.{step-asked, step-went, step-sound-after, run-went}
 
--- Picks and arrays that make a walk.
-pub record ByCalls (w v : List ℕ) (s : St) : Type 0 where
-  pub picks : List ℕ
+-- Arrays that make a walk by picks 0.
+pub record ByCalls (w v : List ℕ) {s s′ : St} (k : Walk (under w) s s′) : Type 0 where
   pub last : List ℕ
-  pub there : view last ≡ s
-  pub moves : Moves w v picks last
+  pub there : view last ≡ s′
+  pub moves : Moves w v (first-picks (λ i. 0) (steps-in k)) last
+  pub as-many : made moves ≡ made-in k
 
 one-call : (w v : List ℕ) (p : ℕ) (s : St) → BothSound w v → stepped (under w) (view v) p ≡ moved s
     → (view (array-of s) ≡ s) × StepCall w v p Moved (array-of s)
 one-call w v p s h e =
     let q = view-of-array s ((step-sound (sound-table h) (sound-state h) p e) .sizes) in
-    (q, record { promised = ap (out made) q ∙ sym (step-asked w v p h ∙ ap (λ a. answered a (view v)) e) })
+    (q, record { promised = ap (out Calls.made) q ∙ sym (step-asked w v p h ∙ ap (λ a. answered a (view v)) e) })
 
-pub by-calls : {w : List ℕ} {s s′ : St} → Walk (under w) s s′ → (v : List ℕ) → view v ≡ s → BothSound w v → ByCalls w v s′
-by-calls stay v q h = record { picks = []; last = v; there = q; moves = none }
-by-calls {w} (take {s = s} {s′ = s₁} p e k) v q h =
-    let c = one-call w v p s₁ h (subst (λ z. stepped (under w) z p ≡ moved s₁) (sym q) e) in
-    let r = by-calls k (array-of s₁) (c .0) (left-sound (c .1)) in
-    record { picks = p ∷ r .picks; last = r .last; there = r .there; moves = more (c .1) (r .moves) }
+pub by-calls : {w : List ℕ} {s s′ : St} (k : Walk (under w) s s′) → AtHead k → (v : List ℕ) → view v ≡ s → BothSound w v
+    → ByCalls w v k
+unfolding made made-in steps-in
+by-calls stay z v q h = record { last = v; there = q; moves = none; as-many = refl }
+by-calls {w} (take {s = s} {s′ = s₁} p e k) z v q h =
+    let c = one-call w v 0 s₁ h (rw (q, ← z .0) e) in
+    let r = by-calls k (z .1) (array-of s₁) (c .0) (step-sound-after (c .1)) in
+    record {
+      last = r .last;
+      there = r .there;
+      moves = more (c .1) (r .moves);
+      as-many = rw (q, z .0, r .as-many);
+    }
+
+-- A run that was not refused.
+because : {w v : List ℕ} (left : ℕ) (t : Stop) → BothSound w v → Agree.Because (under w) left (view v) t → Because w v left t
+because left ended h b = b
+because left paused h b = b
+because left noroom h (o, l, e) = (o, l, refused-13 (sound-state h) 0 .0 e .1)
+
+stops-so : {w v v′ : List ℕ} {budget : ℕ} (t : Stop) (n : ℕ) (h : BothSound w v) → t ≡ (ran (under w) budget (view v)) .stop
+    → n ≡ (ran (under w) budget (view v)) .made → view v′ ≡ (ran (under w) budget (view v)) .state
+    → RunSteps w v budget t n v′
+stops-so {w} {v} {v′} {budget} t n h a b q =
+    let k = run-is-right (sound-table h) budget (sound-state h) in
+    let m = by-calls (k .walk) (k .at-head) v refl h in
+    let s = both-of w v′ (table-given h) (rw q (walk-sound (sound-table h) (sound-state h) (k .walk))) in
+    record {
+      steps = steps-in (k .walk);
+      last = m .last;
+      moves = m .moves;
+      there = m .there ∙ sym q;
+      interactions = m .as-many ∙ sym (k .made) ∙ sym b;
+      within = rw b (k .within);
+      because = because (budget - n) t s (rw (a, b, q) (k .because));
+    }
+
+pub run-steps : {w v : List ℕ} {budget : ℕ} {r : RunAnswer} {v′ : List ℕ} → RunCall w v budget r v′ → (t : Stop) (n : ℕ)
+    → run-told r ≡ stopped t n → RunSteps w v budget t n v′
+run-steps c t n e = let k = run-went c t n e in stops-so t n (k .0) (k .1) (k .2) (k .3)
 
 -- Calls that go on after the end: each picks 0, is answered NoPick and leaves the state.
 module _ {w : List ℕ} where
@@ -76,19 +113,19 @@ module _ {w : List ℕ} where
   unfolding state-at pick-at answer-at
   call-at {v = v} none h e k = idle v h e
   call-at {v = v} (more {p = p} c m) h e ℕ.zero = subst (λ u. StepCall w v p Moved u) (sym (begins m)) c
-  call-at (more c m) h e (ℕ.suc k) = call-at m (left-sound c) e k
+  call-at (more c m) h e (ℕ.suc k) = call-at m (step-sound-after c) e k
 
   picks-at : {v ps v′ : List ℕ} (m : Moves w v ps v′) → (view v′) .waiting .used ≡ 0 → (k : ℕ)
       → 0 < (view (state-at m k)) .waiting .used → pick-at m k < (view (state-at m k)) .waiting .used
   unfolding state-at pick-at
   picks-at none e k o = absurd (omega (arith, e, o))
-  picks-at (more c m) e ℕ.zero o = step-made c .0 refl .1
+  picks-at (more c m) e ℕ.zero o = step-went c .1
   picks-at (more c m) e (ℕ.suc k) o = picks-at m e k o
 
   room-at : {v ps v′ : List ℕ} (m : Moves w v ps v′) (k : ℕ) → ¬ (answer-at m k ≡ NoRoom)
   unfolding answer-at
-  room-at none k q = step-apart NoPick NoRoom refl q (omega arith)
-  room-at (more c m) ℕ.zero q = step-apart Moved NoRoom refl q (omega arith)
+  room-at none k q = absurd (let z : _≡_ {A = ℕ} 0 1 = cc in omega arith)
+  room-at (more c m) ℕ.zero q = absurd (let z : _≡_ {A = ℕ} 0 1 = cc in omega arith)
   room-at (more c m) (ℕ.suc k) q = room-at m k q
 
   -- So the calls of `it-ends` can be made wherever some calls come to where nothing waits.

@@ -2,16 +2,20 @@
 use Prim.Native.Nat.{ℕ, zero, suc, _+_, _≤_, _<_}
 use mathlib.Core.Path.{_≡_, refl, ap, subst, _∙_}
 use mathlib.Core.Bool.{Bool, true, false, cond}
-use mathlib.Core.List.{List, [], _∷_, _++_}
+use mathlib.Core.List.{List, [], _∷_}
 use native.Mathlib.Omega.{arith}
 use lib.ListN.{length, getD}
 use Rattle.parts.specs.Limits.{text-max}
 use lib.Dec.{eqb}
 use Rattle.texts.specs.Bytes.{Word, Line, onLine, lines}
 use Rattle.texts.specs.Books.{Agent, Book, Net, wordRules, wordNet}
-use Rattle.texts.specs.Refused.{headerTests, ruleTests, netTests, faceTests, eqTests, RuleLinesRefused, RulesRefused, NetLinesRefused, NetRefused}
+use Rattle.texts.specs.Answers.{fine}
+use Rattle.texts.specs.RuleText.{Counts, headerLine}
+use Rattle.texts.specs.NetText.{faceLine}
+use Rattle.texts.specs.Refused.{First, RuleLinesRefused, RulesRefused, NetLinesRefused, NetRefused}
+use Rattle.texts.specs.Tests.{headerTests, ruleTests, netTests, faceTests, eqTests}
 use Rattle.texts.specs.Main.{rule-line-refused, eq-line-refused}
-use Rattle.review.specs.Faults.{HeaderFault, RuleFault, RuleCountFault, FaceAbsent, FaceFault, EqFault, NetCountFault, NameFault}
+use Rattle.review.specs.Faults.{Holds, HeaderFault, Headed, RuleFault, RuleCountFault, FaceAbsent, FaceFault, Faced, EqFault, NetLinesGood, NetCountFault, NameFault}
 
 false-true : {A : Type 0} → false ≡ true → A
 false-true e = absurd (let z : _≡_ {A = ℕ} 0 1 = cc in omega arith)
@@ -79,7 +83,19 @@ empty-short (b ∷ bs) e = go (eqb b 10) e
     go true e = absurd (let z : _≡_ {A = ℕ} 0 1 = cc in omega arith)
     go false e = line-on b (lines bs) e
 
+-- The first test that holds.
+holding : {ts : List Bool} {n : ℕ} → First ts n → Holds ts n (getD ts n false)
+holding f = record { holds = f .holds; no-lower = f .least }
+
+first : {ts : List Bool} {n : ℕ} → Holds ts n (getD ts n false) → First ts n
+first f = record { holds = f .holds; least = f .no-lower }
+
 -- A rule text.
+abbrev headed : (word : Word) (text : List ℕ) → length text ≤ text-max → (h : Line) (rest : List Line) → lines text ≡ h ∷ rest
+    → (c : Counts) → headerLine word h ≡ fine c → Headed word text
+headed word text s h rest c k g =
+    record { short = s; header = h; rest = rest; cut = c; counts = k; good-header = g }
+
 module _ (text : List ℕ) (n j : ℕ) where
   abbrev pub HeaderAt : Word → Type 0
   HeaderAt w = HeaderFault w text n (λ l. getD (headerTests w l) n false)
@@ -97,71 +113,67 @@ module _ (text : List ℕ) (n j : ℕ) where
   rule-cases (RulesRefused.tooLong a e i) f₁ f₂ f₃ f₄ f₅ = f₁ e a i
   rule-cases (RulesRefused.inLines s (RuleLinesRefused.noLine c e i)) f₁ f₂ f₃ f₄ f₅ = f₂ e c i
   rule-cases (RulesRefused.inLines s (RuleLinesRefused.badHeader h rest c f i)) f₁ f₂ f₃ f₄ f₅ =
-      f₃
-      (record { header = h; rest = rest; short = s; cut = c; holds = f .holds; no-lower = f .least })
-      (header-few wordRules h n (f .holds))
-      i
+      f₃ (record { short = s; header = h; rest = rest; cut = c; fault = holding f }) (header-few wordRules h n (f .holds)) i
   rule-cases (RulesRefused.inLines s (RuleLinesRefused.badLine h rest c k g i p e)) f₁ f₂ f₃ f₄ f₅ =
       let f = rule-line-refused (p .before) (p .bad) n .0 (p .faulty) in
       f₄
       (record {
-        header = h;
-        counts = k;
+        start = headed wordRules text s h rest c k g;
         good = p .good;
         line = p .bad;
         rest = p .rest;
+        parts = p .parts;
         before = p .before;
-        short = s;
-        cut = c ∙ ap (λ ls. h ∷ ls) (p .parts);
-        good-header = g;
         good-lines = p .reads;
         place = e ∙ ap (λ m. 2 + m) (p .place);
-        holds = f .holds;
-        no-lower = f .least;
+        fault = holding f;
       })
       (rule-few (p .before) (p .bad) n (f .holds))
   rule-cases (RulesRefused.inLines s (RuleLinesRefused.badCount h rest c k g b r d e i)) f₁ f₂ f₃ f₄ f₅ =
-      f₅
-      e
-      (record { header = h; counts = k; rest = rest; book = b; short = s; cut = c; good-header = g; good-lines = r; differs = d })
-      i
+      f₅ e (record { start = headed wordRules text s h rest c k g; book = b; good-lines = r; differs = d }) i
 
   pub from-header : HeaderAt wordRules → j ≡ 1 → RulesRefused text n j
   from-header f i =
-      RulesRefused.inLines
-      (f .short)
-      (RuleLinesRefused.badHeader (f .header) (f .rest) (f .cut) (record { holds = f .holds; least = f .no-lower }) i)
+      RulesRefused.inLines (f .short) (RuleLinesRefused.badHeader (f .header) (f .rest) (f .cut) (first (f .fault)) i)
 
   pub from-line : LineAt → RulesRefused text n j
   from-line f =
+      let s = f .start in
       RulesRefused.inLines
-      (f .short)
+      (s .short)
       (RuleLinesRefused.badLine
-      (f .header)
-      (f .good ++ (f .line ∷ f .rest))
-      (f .cut)
-      (f .counts)
-      (f .good-header)
+      (s .header)
+      (s .rest)
+      (s .cut)
+      (s .counts)
+      (s .good-header)
       (length (f .good))
       (record {
         good = f .good;
         bad = f .line;
         rest = f .rest;
         before = f .before;
-        parts = refl;
+        parts = f .parts;
         reads = f .good-lines;
-        faulty = rule-line-refused (f .before) (f .line) n .1 (record { holds = f .holds; least = f .no-lower });
+        faulty = rule-line-refused (f .before) (f .line) n .1 (first (f .fault));
         place = refl;
       })
       (f .place))
 
   pub from-count : RuleCountFault text → n ≡ 11 → j ≡ 1 → RulesRefused text n j
   from-count f e i =
+      let s = f .start in
       RulesRefused.inLines
-      (f .short)
-      (RuleLinesRefused.badCount (f .header) (f .rest) (f .cut) (f .counts) (f .good-header) (f .book) (f .good-lines) (f .differs) e i)
+      (s .short)
+      (RuleLinesRefused.badCount (s .header) (s .rest) (s .cut) (s .counts) (s .good-header) (f .book) (f .good-lines) (f .differs) e i)
 
 -- A net text.
+abbrev faced : (ags : List Agent) (text : List ℕ) → length text ≤ text-max → (h f : Line) (rest : List Line)
+    → lines text ≡ h ∷ f ∷ rest → (c : Counts) → headerLine wordNet h ≡ fine c → (m : Net) → faceLine ags f ≡ fine m
+    → Faced ags text
+faced ags text s h f rest c k g m r =
+    record { start = headed wordNet text s h (f ∷ rest) c k g; face = f; rest = rest; parts = refl; first = m; good-face = r }
+
 module _ (ags : List Agent) (text : List ℕ) (n j : ℕ) where
   abbrev pub FaceAt : Type 0
   FaceAt = FaceFault ags text n (λ l. getD (faceTests ags l) n false)
@@ -185,106 +197,91 @@ module _ (ags : List Agent) (text : List ℕ) (n j : ℕ) where
   net-cases (NetRefused.tooLong a e i) f₁ f₂ f₃ f₄ f₅ f₆ f₇ f₈ = f₁ e a i
   net-cases (NetRefused.inLines s (NetLinesRefused.noLine c e i)) f₁ f₂ f₃ f₄ f₅ f₆ f₇ f₈ = f₂ e c i
   net-cases (NetRefused.inLines s (NetLinesRefused.badHeader h rest c f i)) f₁ f₂ f₃ f₄ f₅ f₆ f₇ f₈ =
-      f₃
-      (record { header = h; rest = rest; short = s; cut = c; holds = f .holds; no-lower = f .least })
-      (header-few wordNet h n (f .holds))
-      i
+      f₃ (record { short = s; header = h; rest = rest; cut = c; fault = holding f }) (header-few wordNet h n (f .holds)) i
   net-cases (NetRefused.inLines s (NetLinesRefused.noFace h c k g e i)) f₁ f₂ f₃ f₄ f₅ f₆ f₇ f₈ =
-      f₄ e (record { header = h; counts = k; short = s; cut = c; good-header = g }) i
+      f₄ e (record { start = headed wordNet text s h [] c k g; nothing = refl }) i
   net-cases (NetRefused.inLines s (NetLinesRefused.badFace h a rest c k g f i)) f₁ f₂ f₃ f₄ f₅ f₆ f₇ f₈ =
       f₅
-      (record { header = h; counts = k; face = a; rest = rest; short = s; cut = c; good-header = g; holds = f .holds; no-lower = f .least })
+      (record { start = headed wordNet text s h (a ∷ rest) c k g; face = a; rest = rest; parts = refl; fault = holding f })
       (face-few ags a n (f .holds))
       i
   net-cases (NetRefused.inLines s (NetLinesRefused.badLine h a rest c k g m r i p e)) f₁ f₂ f₃ f₄ f₅ f₆ f₇ f₈ =
       let f = eq-line-refused ags (p .before) (p .bad) n .0 (p .faulty) in
       f₆
       (record {
-        header = h;
-        counts = k;
-        face = a;
-        first = m;
+        start = faced ags text s h a rest c k g m r;
         good = p .good;
         line = p .bad;
         rest = p .rest;
+        parts = p .parts;
         before = p .before;
-        short = s;
-        cut = c ∙ ap (λ ls. h ∷ a ∷ ls) (p .parts);
-        good-header = g;
-        good-face = r;
         good-lines = p .reads;
         place = e ∙ ap (λ m. 3 + m) (p .place);
-        holds = f .holds;
-        no-lower = f .least;
+        fault = holding f;
       })
       (eq-few ags (p .before) (p .bad) n (f .holds))
   net-cases (NetRefused.inLines s (NetLinesRefused.badCount h a rest c k g m r net q d e i)) f₁ f₂ f₃ f₄ f₅ f₆ f₇ f₈ =
-      f₇
-      e
-      (record {
-        good =
-            record { header = h; counts = k; face = a; first = m; rest = rest; net = net; short = s; cut = c; good-header = g; good-face = r; good-lines = q };
-        differs = d;
-      })
-      i
+      let good : NetLinesGood ags text =
+      record { start = faced ags text s h a rest c k g m r; net = net; good-lines = q } in
+      f₇ e (record { good = good; differs = d }) i
   net-cases (NetRefused.inLines s (NetLinesRefused.badName h a rest c k g m r net q d i l e o)) f₁ f₂ f₃ f₄ f₅ f₆ f₇ f₈ =
-      f₈
-      e
-      (record {
-        good =
-            record { header = h; counts = k; face = a; first = m; rest = rest; net = net; short = s; cut = c; good-header = g; good-face = r; good-lines = q };
-        same = d;
-        after-face = i;
-        loose = l;
-        place = o;
-      })
+      let good : NetLinesGood ags text =
+      record { start = faced ags text s h a rest c k g m r; net = net; good-lines = q } in
+      f₈ e (record { good = good; same = d; after-face = i; loose = l; place = o })
 
   pub from-net-header : NetHeaderAt → j ≡ 1 → NetRefused ags text n j
   from-net-header f i =
-      NetRefused.inLines
-      (f .short)
-      (NetLinesRefused.badHeader (f .header) (f .rest) (f .cut) (record { holds = f .holds; least = f .no-lower }) i)
+      NetRefused.inLines (f .short) (NetLinesRefused.badHeader (f .header) (f .rest) (f .cut) (first (f .fault)) i)
 
   pub from-no-face : FaceAbsent text → n ≡ 3 → j ≡ 2 → NetRefused ags text n j
   from-no-face f e i =
-      NetRefused.inLines (f .short) (NetLinesRefused.noFace (f .header) (f .cut) (f .counts) (f .good-header) e i)
+      let s = f .start in
+      NetRefused.inLines
+      (s .short)
+      (NetLinesRefused.noFace (s .header) (s .cut ∙ ap (λ ls. s .header ∷ ls) (f .nothing)) (s .counts) (s .good-header) e i)
 
   pub from-face : FaceAt → j ≡ 2 → NetRefused ags text n j
   from-face f i =
+      let s = f .start in
       NetRefused.inLines
-      (f .short)
+      (s .short)
       (NetLinesRefused.badFace
-      (f .header)
+      (s .header)
       (f .face)
       (f .rest)
-      (f .cut)
-      (f .counts)
-      (f .good-header)
-      (record { holds = f .holds; least = f .no-lower })
+      (s .cut ∙ ap (λ ls. s .header ∷ ls) (f .parts))
+      (s .counts)
+      (s .good-header)
+      (first (f .fault))
       i)
+
+  -- The lines of a text of which the first two are good.
+  lines-of : (f : Faced ags text) → lines text ≡ f .start .header ∷ f .face ∷ f .rest
+  lines-of f = f .start .cut ∙ ap (λ ls. f .start .header ∷ ls) (f .parts)
 
   pub from-eq : EqAt → NetRefused ags text n j
   from-eq f =
+      let s = f .start in
       NetRefused.inLines
-      (f .short)
+      (s .start .short)
       (NetLinesRefused.badLine
-      (f .header)
-      (f .face)
-      (f .good ++ (f .line ∷ f .rest))
-      (f .cut)
-      (f .counts)
-      (f .good-header)
-      (f .first)
-      (f .good-face)
+      (s .start .header)
+      (s .face)
+      (s .rest)
+      (lines-of s)
+      (s .start .counts)
+      (s .start .good-header)
+      (s .first)
+      (s .good-face)
       (length (f .good))
       (record {
         good = f .good;
         bad = f .line;
         rest = f .rest;
         before = f .before;
-        parts = refl;
+        parts = f .parts;
         reads = f .good-lines;
-        faulty = eq-line-refused ags (f .before) (f .line) n .1 (record { holds = f .holds; least = f .no-lower });
+        faulty = eq-line-refused ags (f .before) (f .line) n .1 (first (f .fault));
         place = refl;
       })
       (f .place))
@@ -292,17 +289,18 @@ module _ (ags : List Agent) (text : List ℕ) (n j : ℕ) where
   pub from-net-count : NetCountFault ags text → n ≡ 11 → j ≡ 1 → NetRefused ags text n j
   from-net-count f e i =
       let g = f .good in
+      let s = g .start in
       NetRefused.inLines
-      (g .short)
+      (s .start .short)
       (NetLinesRefused.badCount
-      (g .header)
-      (g .face)
-      (g .rest)
-      (g .cut)
-      (g .counts)
-      (g .good-header)
-      (g .first)
-      (g .good-face)
+      (s .start .header)
+      (s .face)
+      (s .rest)
+      (lines-of s)
+      (s .start .counts)
+      (s .start .good-header)
+      (s .first)
+      (s .good-face)
       (g .net)
       (g .good-lines)
       (f .differs)
@@ -312,17 +310,18 @@ module _ (ags : List Agent) (text : List ℕ) (n j : ℕ) where
   pub from-name : NameFault ags text j → n ≡ 8 → NetRefused ags text n j
   from-name f e =
       let g = f .good in
+      let s = g .start in
       NetRefused.inLines
-      (g .short)
+      (s .start .short)
       (NetLinesRefused.badName
-      (g .header)
-      (g .face)
-      (g .rest)
-      (g .cut)
-      (g .counts)
-      (g .good-header)
-      (g .first)
-      (g .good-face)
+      (s .start .header)
+      (s .face)
+      (s .rest)
+      (lines-of s)
+      (s .start .counts)
+      (s .start .good-header)
+      (s .first)
+      (s .good-face)
       (g .net)
       (g .good-lines)
       (f .same)

@@ -13,25 +13,26 @@ use Rattle.texts.specs.Main as Texts
 use Rattle.texts.specs.Meaning.{meantNet}
 use Rattle.model.specs.State.{St}
 use Rattle.model.specs.Table.{Table}
-use Rattle.model.specs.Load.{Net, loaded, NetReads}
-use Rattle.model.specs.Sound.{SoundTable, Sound}
+use Rattle.model.specs.Load.{Net, loaded}
+use Rattle.model.specs.NetReads.{NetReads}
+use Rattle.model.specs.Sound.{Sound}
+use Rattle.model.specs.SoundTable.{SoundTable}
 use Rattle.model.specs.Kept.{load-sound, one-meaning}
-use Rattle.model.specs.Walk.{Walk, stay, take, steps-in, made-in, uses-in}
-use Rattle.model.specs.Agree.{EndsAt, Agrees}
+use Rattle.model.specs.Walk.{Walk, stay, take, made-in, EndsAt}
+use Rattle.model.specs.Agree.{Agrees, steps-in, uses-in}
 use Rattle.model.specs.Demand3 as Model
 use Rattle.state.specs.Layout.{view}
 use Rattle.sound.specs.Lent.{under}
 use Rattle.lent.specs.Both.{BothSound, under-is, given-sound, sound-state, both-of}
 use Rattle.machine.specs.declared.calls.StepAnswer.{StepAnswer}
-use Rattle.machine.specs.declared.calls.StepAnswer.the-variants.{Moved}
+use Rattle.machine.specs.declared.calls.StepAnswer.the-variants.{Moved, NoRoom}
 use Rattle.review.specs.Promises.{StepCall}
-use Rattle.review.specs.Demand1.{step-made, step-13}
-use Rattle.review.specs.Demand2.{stepped-so, left-sound}
 use Rattle.review.specs.Picks.{Accepted, Ends, Moves, none, more, made, uses, Agreed, Calls, first-picks}
+use Rattle.review.specs.Proofs.Steps.{step-exactly, step-went, step-sound-after}
 
 pub walk-of : {w v ps v′ : List ℕ} → Moves w v ps v′ → Walk (under w) (view v) (view v′)
 walk-of none = stay
-walk-of (more {p = p} c m) = take p (stepped-so c) (walk-of m)
+walk-of (more {p = p} c m) = take p (step-went c .2) (walk-of m)
 
 pub made-same : {w v ps v′ : List ℕ} (m : Moves w v ps v′) → made-in (walk-of m) ≡ made m
 unfolding walk-of made made-in
@@ -50,7 +51,7 @@ steps-same (more c m) = rw (steps-same m)
 
 pub moves-sound : {w v ps v′ : List ℕ} → BothSound w v → Moves w v ps v′ → BothSound w v′
 moves-sound h none = h
-moves-sound h (more c m) = moves-sound (left-sound c) m
+moves-sound h (more c m) = moves-sound (step-sound-after c) m
 
 -- A walk from a state that is a loaded net.
 pub agreed-from : {T : Table} → SoundTable T → {N : Net} {C D : Conf} {M : List Label} → NetReads T N C → EndsAt T C M D
@@ -85,7 +86,7 @@ module _ {rules net w v : List ℕ} (a : Accepted rules net w v) where
       agreed-from
       start-table
       start-reads
-      (subst (λ T. EndsAt T (meantNet (a .book .agents) (a .spelt)) M N) (sym same-table) e)
+      (subst (λ T. EndsAt T (meantNet (a .book .agents) (a .spelt)) M N) (sym same-table) (record { way = e .way; end = e .end }))
       (a .state)
       k
 
@@ -113,7 +114,7 @@ pub stop-or-go : {w : List ℕ} (fuel : ℕ) {f : ℕ → ℕ} {r : ℕ → Step
     → Calls w f r vs → Stops w f vs ⊎ Moves w (vs 0) (first-picks f fuel) (vs fuel)
 stop-or-go ℕ.zero vs h c = inr none
 stop-or-go {w} (ℕ.suc fuel) {f} {r} vs h c =
-    go (λ k. stop-or-go fuel {f = λ i. f (suc i)} {r = λ i. r (suc i)} (λ i. vs (suc i)) (left-sound k) rest) ((view (vs 0)) .waiting .used) refl
+    go (λ k. stop-or-go fuel {f = λ i. f (suc i)} {r = λ i. r (suc i)} (λ i. vs (suc i)) (step-sound-after k) rest) ((view (vs 0)) .waiting .used) refl
   where
     rest : Calls w (λ i. f (suc i)) (λ i. r (suc i)) (λ i. vs (suc i))
     rest = record { call = λ i. c .call (suc i); picks = λ i. c .picks (suc i); room = λ i. c .room (suc i) }
@@ -126,7 +127,7 @@ stop-or-go {w} (ℕ.suc fuel) {f} {r} vs h c =
         let k = c .call 0 in
         subst
         (λ q. StepCall w (vs 0) (f 0) q (vs 1))
-        (step-made k .1 (h, c .picks 0 o, λ n. c .room 0 (step-13 k .1 (h, c .picks 0 o, n))))
+        (step-exactly k Moved .1 (h, c .picks 0 o, λ n. c .room 0 (step-exactly k NoRoom .1 (h, c .picks 0 o, n))))
         k
 
     on : (k : StepCall w (vs 0) (f 0) Moved (vs 1)) → Rest

@@ -5,11 +5,10 @@ use mathlib.Core.Bool.{Bool, true, false, cond}
 use mathlib.Core.List.{List, [], _∷_, _++_, List·Memᴰ·head, List·Memᴰ·tail, Memᴰ·append-left, Memᴰ·append-right}
 use Rattle.parts.specs.Sides.{Side, name, cell}
 use Rattle.model.specs.Table.{Cell}
-use Rattle.texts.specs.Bytes.{Word}
+use Rattle.texts.specs.Bytes.{Word, In}
 use Rattle.texts.specs.Terms.{Term, Terms, term, nil, cons}
 use Rattle.texts.specs.Books.{Agent, declared}
 use Rattle.texts.specs.Coded.{symbolOf, size, codeAt, codes, cellsAt, cellsFrom}
-use Rattle.texts.specs.Proofs.Tools.{In}
 use Rattle.texts.specs.Proofs.Linear.{words, wordsIn}
 
 module _ (ags : List Agent) (f g : Word → ℕ) where

@@ -2,8 +2,8 @@
 use mathlib.Core.Path.{_≡_, refl, sym, ap, _∙_}
 use mathlib.Core.Bool.{Bool, true, false, cond, not}
 use mathlib.Core.List.{List, [], _∷_, _++_, append-nil, append-assoc, List·Memᴰ·head, List·Memᴰ·tail}
-use Rattle.texts.specs.Bytes.{Word, keep, among, different}
-use Rattle.texts.specs.Proofs.Tools.{never, In}
+use Rattle.texts.specs.Bytes.{Word, keep, among, different, In}
+use Rattle.texts.specs.Proofs.Tools.{never}
 use Rattle.texts.specs.Proofs.Places.{keep-in}
 use Rattle.texts.specs.Proofs.TermLists.{among-append}
 use Rattle.terms.specs.Meaning.{grown}

@@ -6,12 +6,12 @@ use mathlib.Core.List.{List, [], _∷_, _++_, Memᴰ·append-left, Memᴰ·appen
 use mathlib.Core.Option.{some}
 use lib.ListN.{length, drop}
 use borrow.Author.Tests.{eq-eqb}
-use Rattle.texts.specs.Bytes.{Word, any, fields}
+use Rattle.texts.specs.Bytes.{Word, any, fields, In}
 use Rattle.texts.specs.Terms.{Term, nodes, wordsOf}
 use Rattle.texts.specs.Books.{Agent, Rule, declared, takes, headOf, argsOf, leftArgs, lefts, rights}
 use Rattle.texts.specs.Coded.{template}
 use Rattle.texts.specs.RuleText.{wrongArgs, overNames, termsOf}
-use Rattle.texts.specs.Proofs.Tools.{pair, In, true-all, false-any}
+use Rattle.texts.specs.Proofs.Tools.{pair, true-all, false-any}
 use Rattle.texts.specs.Proofs.Agents.{symbol-number}
 use Rattle.texts.specs.Proofs.Linear.{words-append}
 use Rattle.texts.specs.Proofs.Ranged.{first-arity, second-arity}

@@ -7,12 +7,12 @@ use mathlib.Core.List.{List, [], _∷_, _++_, append-assoc, List·Memᴰ·append
 use native.Mathlib.Omega.{arith}
 use lib.ListN.{length, getD, replicate}
 use Rattle.parts.specs.Limits.{arity-max}
-use Rattle.texts.specs.Bytes.{Word, any, all, same, among, indexOf, different}
+use Rattle.texts.specs.Bytes.{Word, any, all, same, among, indexOf, different, In}
 use Rattle.texts.specs.Terms.{Term, Terms, term, nil, cons, identifier, worded, wordeds, nodes, wordsOf}
 use Rattle.texts.specs.Books.{Agent, Rule, declared, argsOf, leftArgs, lefts, rights, namesOf, newNames}
 use Rattle.texts.specs.Coded.{packed, second-from, new-from, ruleNumber}
-use Rattle.texts.specs.Good.{SoundRule}
-use Rattle.texts.specs.Proofs.Tools.{never, both, neither, In, among-in, in-among}
+use Rattle.texts.specs.Conditions.{SoundRule}
+use Rattle.texts.specs.Proofs.Tools.{never, both, neither, among-in, in-among}
 use Rattle.texts.specs.Proofs.Places.{index-left, keep-in}
 use Rattle.texts.specs.Proofs.TermLists.{among-append}
 use Rattle.texts.specs.Proofs.Linear.{words, wordsIn, words-all}

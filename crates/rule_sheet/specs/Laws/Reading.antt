@@ -12,9 +12,9 @@ use Rattle.parts.specs.Sides.{name, Pair, _:=_, code}
 use Rattle.texts.specs.Bytes.{Word, any, all, fields}
 use Rattle.texts.specs.Terms.{nodes, wordsOf, worded, symbol}
 use Rattle.texts.specs.Books.{Agent, Equation, Rule, declared, argsOf, lefts, rights, sides, namesOf, newNames}
-use Rattle.texts.specs.Coded.{new-from, packed, twos, codes, cellsFrom, ruleNumber, template}
+use Rattle.texts.specs.Coded.{new-from, packed, twos, codes, cellsFrom, ruleNumber, template, unpaired}
 use Rattle.texts.specs.RuleText.{bigNode}
-use Rattle.texts.specs.TableTest.{agentOk, unpaired}
+use Rattle.texts.specs.TableTest.{agentOk}
 use Rattle.texts.specs.Proofs.Tools.{both, neither, any-append, all-mono}
 use Rattle.texts.specs.Proofs.Means.{spell-terms}
 use Rattle.texts.specs.Proofs.Places.{in-keep}

@@ -2,7 +2,7 @@
 use Prim.Native.Nat.{ℕ, zero, suc, _+_, _-_, _≤_, _<_}
 use mathlib.Core.Path.{_≡_, refl, sym, ap, _∙_}
 use mathlib.Core.Bool.{Bool, true, false, cond, not}
-use mathlib.Core.List.{List, [], _∷_, _++_, append-assoc, append-nil, map}
+use mathlib.Core.List.{List, [], _∷_, _++_, append-assoc, append-nil, map, map-append}
 use native.Mathlib.Omega.{arith}
 use native.Mathlib.Nat.{zero-add}
 use lib.ListN.{length, take, drop, length-drop, drop-of-length-le}
@@ -16,10 +16,6 @@ use Rattle.scan.specs.Words.{wordStart, wordEnd, wordsIn}
 
 abbrev wordOf : Met → Word
 wordOf m = m .word
-
-map-append : (xs ys : List Met) → map wordOf (xs ++ ys) ≡ map wordOf xs ++ map wordOf ys
-map-append [] ys = refl
-map-append (x ∷ xs) ys = rw (map-append xs ys)
 
 met-level : (w : Word) (d e : ℕ) → map wordOf (met w d) ≡ map wordOf (met w e)
 unfolding met
@@ -39,8 +35,8 @@ level-free (b ∷ s) w d e =
         ≡ map wordOf (cond t (walk e (w ++ (b ∷ [])) s) (met w e ++ walk (depth e b) [] s))
     go true p q = p
     go false p q =
-        map-append (met w d) (walk (depth d b) [] s)
-        ∙ (rw (met-level w d e, q) (sym (map-append (met w e) (walk (depth e b) [] s))))
+        map-append wordOf (met w d) (walk (depth d b) [] s)
+        ∙ (rw (met-level w d e, q) (sym (map-append wordOf (met w e) (walk (depth e b) [] s))))
 
 none-in : wordsIn [] ≡ []
 unfolding wordsIn walk met

@@ -1,14 +1,13 @@
 -- Laws of lists by number: their lengths, what stands at a number, and one block or one row changed.
 use Prim.Native.Nat.{ℕ, zero, suc, _+_, _*_, _<_, _≤_}
-use mathlib.Core.Path.{_≡_, refl, sym, ap, ap₂, _∙_}
-use mathlib.Core.List.{List, [], _∷_, _++_, append-assoc}
+use mathlib.Core.Path.{_≡_, refl, ap, ap₂, _∙_}
+use mathlib.Core.List.{List, [], _∷_, _++_}
 use native.Mathlib.Omega.{arith}
 use native.Mathlib.Nat.{mul-suc}
-use native.Mathlib.Numerals.{add-one}
-use lib.ListN.{length, getD, take, drop, replicate, length-append, length-replicate, getD-replicate, List·getD-append}
-use lib.Seq.{getD-append-add, ext-getD, take-at, drop-append-add, take-append-le, sets, length-sets}
+use lib.ListN.{length, getD, replicate, length-append, length-replicate, List·getD-append}
+use lib.Seq.{getD-append-add, ext-getD, take-at, drop-append-add}
 use Rattle.parts.specs.Segments.{seg}
-use Rattle.table.specs.Lists.{tab, blocks, filled, rowOf}
+use Rattle.table.specs.Lists.{tab, blocks, rowOf}
 
 module _ {A : Type 0} where
   pub length-tab : (n : ℕ) (f : ℕ → A) → length (tab n f) ≡ n

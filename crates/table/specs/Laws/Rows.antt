@@ -1,28 +1,25 @@
 -- Each row of a table's bytes has its length, and stands for the agent, the cell or the rule that it was made of.
 use Prim.Native.Nat.{ℕ, zero, suc, _+_, _*_, _<_, _≤_, pred}
 use mathlib.Core.Path.{_≡_, refl, sym, ap, ap₂, _∙_}
-use mathlib.Core.Bool.{Bool, true, false, cond, _&&_, _||_}
+use mathlib.Core.Bool.{Bool, true, _&&_}
 use mathlib.Core.List.{List, [], _∷_, _++_, map}
 use native.Mathlib.Omega.{arith}
-use native.Mathlib.Nat.{mul-suc}
-use lib.ListN.{length, getD, take, length-append, length-map, List·getD-map, List·getD-append}
+use lib.ListN.{length, getD, take, length-append, List·getD-map, List·getD-append}
 use lib.Seq.{take-at, getD-append-add, getD-append-seam}
-use lib.Dec.{eqb, ltb, leb}
+use lib.Dec.{ltb, leb}
 use borrow.Author.Tests.{leb-true, eqb-true}
-use Rattle.parts.specs.Limits.{identifier-max, symbols-max, arity-max, rules-max, rule-equations-max, rule-cells-max, agent-size, node-size, rule-size}
-use Rattle.parts.specs.Sides.{Side, name, cell}
-use Rattle.parts.specs.Sides.{Pair, _:=_}
-use Rattle.model.specs.Table.{Cell}
-use Rattle.parts.specs.Sides.{code, side}
-use Rattle.parts.specs.Sides.{side-code}
-use Rattle.model.specs.Table.{Entry}
+use Rattle.parts.specs.Limits.{identifier-max, arity-max, rule-equations-max, rule-cells-max, agent-size, node-size, rule-size}
+use Rattle.parts.specs.Sides.{name, Pair, _:=_, code, side}
+use Rattle.parts.specs.Codes.{side-code}
+use Rattle.model.specs.Table.{Cell, Entry}
 use Rattle.texts.specs.Bytes.{Word, all, letter, digit, wordByte}
 use Rattle.texts.specs.Terms.{symbol}
 use Rattle.texts.specs.Books.{Agent}
-use Rattle.texts.specs.TableTest.{agentOk, arityAt, cellOk, unpaired}
+use Rattle.texts.specs.TableTest.{agentOk, cellOk}
+use Rattle.texts.specs.Coded.{arityAt, unpaired}
 use Rattle.texts.specs.Proofs.Tools.{never, both}
 use Rattle.table.specs.Lists.{tab, blocks, filled, rowOf}
-use Rattle.table.specs.Laws.Lists.{length-tab, tab-at, tab-list, tab-cong, length-row, row-at, length-blocks, block-get}
+use Rattle.table.specs.Laws.Lists.{length-tab, tab-at, tab-list, length-row, row-at, length-blocks, block-get}
 use Rattle.table.specs.Layout.{sides-in, nodes-in, word, agentOf, equationOf, symbolOf, cellOf, entryOf, agentBytes, nodeBytes, ruleBytes}
 
 -- What holds of each element of a list holds of the one with a number.

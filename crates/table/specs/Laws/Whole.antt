@@ -1,26 +1,27 @@
 -- The bytes of a table are as many as a lent table has, and stand for the table.
-use Prim.Native.Nat.{ℕ, zero, suc, _+_, _*_, _-_, _/_, _%_, _<_, _≤_}
+use Prim.Native.Nat.{ℕ, zero, suc, _+_, _*_, _/_, _%_, _<_, _≤_}
 use mathlib.Core.Path.{_≡_, refl, sym, ap, ap₂, _∙_}
-use mathlib.Core.Bool.{Bool, true, false, not, _&&_, _||_}
+use mathlib.Core.Bool.{true, not, _&&_}
 use mathlib.Core.List.{List, [], _∷_, _++_}
 use native.Mathlib.Omega.{arith}
-use native.Mathlib.Nat.{div-add-mod'}
-use lib.ListN.{length, getD, take, drop, length-append, length-drop, List·getD-append}
+use native.Mathlib.Nat.{div-add-mod', mul-suc}
+use lib.ListN.{length, getD, take, drop, replicate, length-append, replicate-append-replicate, length-drop, List·getD-append}
 use lib.Seq.{take-append-le, drop-append-le, drop-append-add, getD-append-add}
-use lib.Dec.{eqb, leb, ltb}
+use lib.Dec.{leb}
 use borrow.Author.Tests.{leb-true}
-use Rattle.parts.specs.Limits.{identifier-max, symbols-max, arity-max, rules-max, rule-equations-max, rule-cells-max, agent-size, rule-size, table-size}
+use Rattle.parts.specs.Limits.{symbols-max, rules-max, agent-size, rule-size, table-size}
 use Rattle.parts.specs.Segments.{seg}
 use Rattle.model.specs.Table.{Entry, Found, none, straight, turned, find}
 use Rattle.texts.specs.Bytes.{all, any}
 use Rattle.texts.specs.Books.{Agent, declared}
 use Rattle.texts.specs.Coded.{Table}
-use Rattle.texts.specs.TableTest.{agentOk, testAgents, cellOk, pairTest, testTemplate, testTemplates, testTable}
+use Rattle.texts.specs.TableTest.{agentOk, testAgents, pairTest, testTemplate, testTemplates, testTable}
 use Rattle.texts.specs.Proofs.Tools.{both, pair}
 use Rattle.texts.specs.Proofs.Clauses.{clauses-of}
 use Rattle.table.specs.Lists.{tab, blocks, rowOf}
-use Rattle.table.specs.Laws.Lists.{tab-list, length-row, row-at, length-blocks, block-at, block-get}
-use Rattle.table.specs.Layout.{agents-at, pairs-at, rules-at, agentRow, ruleRow, agentOf, entryOf, rulesIn, agentsIn, view, agentBytes, ruleBytes, foundBytes, pairBytes, bytesOf}
+use Rattle.table.specs.Laws.Lists.{row-past, length-tab, tab-list, length-row, row-at, length-blocks, block-at, block-get}
+use Rattle.table.specs.Put.{no-table}
+use Rattle.table.specs.Layout.{symbols-at, pairs-at, rules-at, agentRow, ruleRow, agentOf, entryOf, rulesIn, agentsIn, view, agentBytes, ruleBytes, foundBytes, pairBytes, bytesOf}
 use Rattle.table.specs.Laws.Rows.{length-agent, length-rule, all-at, agent-back, Fits, rule-back}
 
 -- The four parts of a table's bytes.
@@ -107,7 +108,29 @@ pair-at t a b j ha hb hj =
     ∙ (block-get (2 * symbols-max) symbols-max (λ a. blocks symbols-max (λ b. foundBytes (find (t .rules) 0 a b))) (length-line (t .rules)) a (2 * b + j) ha (omega arith)
     ∙ block-get 2 symbols-max (λ b. foundBytes (find (t .rules) 0 a b)) (λ b. length-found (find (t .rules) 0 a b)) b j hb hj))))
 
+-- The bytes of no agents and no rules are zero.
+blocks-zero : (w n : ℕ) (f : ℕ → List ℕ) → ((k : ℕ) → f k ≡ replicate w 0) → blocks n f ≡ replicate (w * n) 0
+unfolding blocks
+blocks-zero w ℕ.zero f h = let z : w * 0 ≡ 0 = omega arith in rw z
+blocks-zero w (ℕ.suc n) f h =
+    let z : w * suc n ≡ w + w * n = omega (arith, mul-suc w n) in
+    rw z (ap₂ _++_ (h 0) (blocks-zero w n (λ k. f (suc k)) (λ k. h (suc k))) ∙ replicate-append-replicate w (w * n) 0)
+
+pub nothing-bytes : bytesOf no-table ≡ replicate table-size 0
+unfolding bytesOf pairBytes
+nothing-bytes =
+    ap₂ (λ x y. 0 ∷ 0 ∷ 0 ∷ (x ++ y)) (blocks-zero agent-size symbols-max (rowOf agent-size agentBytes []) (λ k. row-past agent-size agentBytes [] k (omega arith)))
+    (ap₂ _++_
+    (blocks-zero (2 * symbols-max) symbols-max (λ a. blocks symbols-max (λ b. foundBytes (find [] 0 a b))) (λ a. blocks-zero 2 symbols-max (λ b. foundBytes (find [] 0 a b)) (λ b. refl)))
+    (blocks-zero rule-size rules-max (rowOf rule-size ruleBytes []) (λ k. row-past rule-size ruleBytes [] k (omega arith)))
+    ∙ replicate-append-replicate (2 * symbols-max * symbols-max) (rule-size * rules-max) 0)
+    ∙ ap (λ l. 0 ∷ 0 ∷ 0 ∷ l) (replicate-append-replicate (agent-size * symbols-max) (2 * symbols-max * symbols-max + rule-size * rules-max) 0)
+
 -- The counts.
+pub symbols-are : (w : List ℕ) → getD w 0 0 ≡ length (agentsIn w)
+unfolding agentsIn
+symbols-are w = sym (length-tab (getD w symbols-at 0) (λ k. agentOf (agentRow w k)))
+
 pub symbols-in : (t : Table) → getD (bytesOf t) 0 0 ≡ length (t .agents)
 unfolding bytesOf
 symbols-in t = refl

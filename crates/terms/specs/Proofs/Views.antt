@@ -6,7 +6,8 @@ use native.Mathlib.Omega.{arith}
 use lib.ListN.{length, getD, drop, length-drop}
 use lib.Seq.{length-take-le}
 use Rattle.parts.specs.Limits.{arity-max, net-cells-max, net-names-max}
-use Rattle.parts.specs.Segments.{seg, Agree, agree-none, agree-part, agree-word, agree-all}
+use Rattle.parts.specs.Segments.{seg}
+use Rattle.parts.specs.SegmentLaws.{Agree, agree-none, agree-part, agree-word, agree-all}
 use Rattle.terms.specs.Layout.{cells-at, names-at, symbols-at, arguments-at, places-at, sheet-size}
 use Rattle.terms.specs.Sheet.{view}
 use Rattle.terms.specs.Words.{entriesFrom, entries}

@@ -9,15 +9,15 @@ use lib.ListN.{length}
 use lib.Dec.{eqb, ltb}
 use borrow.Author.Tests.{eqb-true, le-leb, lt-leb, ltb-true}
 use Rattle.parts.specs.Limits.{identifier-max, arity-max, rule-names-max}
-use Rattle.texts.specs.Bytes.{Word, all, keep, among, indexOf}
+use Rattle.texts.specs.Bytes.{Word, all, keep, among, indexOf, In}
 use Rattle.texts.specs.Terms.{term, identifier}
 use Rattle.texts.specs.Books.{Agent, Rule, declared, takes, pairs, lefts, rights, headOf, argsOf, namesOf, newNames}
 use Rattle.parts.specs.Sides.{name}
 use Rattle.model.specs.Table.{Cell, Entry}
-use Rattle.texts.specs.Coded.{symbolOf, packed, second-from, new-from, ruleNumber, template}
-use Rattle.texts.specs.Proofs.Tools.{both, In, all-left, all-right, keep-append}
+use Rattle.texts.specs.Coded.{symbolOf, packed, second-from, new-from, ruleNumber, template, arityAt, unpaired}
+use Rattle.texts.specs.Proofs.Tools.{both, all-left, all-right, keep-append}
 use Rattle.texts.specs.Proofs.Linear.{words, wordsIn, words-all}
-use Rattle.texts.specs.TableTest.{arityAt, cellOk, unpaired, argsAll, allCodes, codeOk, met, testAgents, testTemplate}
+use Rattle.texts.specs.TableTest.{cellOk, argsAll, allCodes, codeOk, met, testAgents, testTemplate}
 use Rattle.texts.specs.Proofs.Clauses.{Clauses, clauses-of, Place, on-left, on-right, is-new, place, of-place}
 use Rattle.texts.specs.Proofs.Agents.{spelt-symbols, few-args, symbol-at}
 use Rattle.texts.specs.Proofs.Respelt.{most, word, word-plain, word-undeclared}

@@ -8,15 +8,16 @@ use native.Mathlib.Omega.{arith}
 use lib.ListN.{length}
 use lib.Dec.{ltb}
 use borrow.Author.Tests.{eqb-true, not-false, not-true, ltb-false}
-use Rattle.texts.specs.Bytes.{Word, Line, any, all, same, among, times}
+use Rattle.texts.specs.Bytes.{Word, Line, any, all, same, among, times, In}
 use Rattle.texts.specs.Terms.{nodes}
 use Rattle.texts.specs.Books.{Agent, Rule, Book, Record, isAgent, isRule, recordsOf, add, noBook, declared, takes, cellsOf, namesOf, lefts, rights, headOf, argsOf, leftArgs, newNames, wordRules, printBook}
 use Rattle.texts.specs.RuleText.{fault6, fault7, fault8, fault9, fault10, wrongArgs, overNames, allDifferent, rightTimes, wrongTimes, samePair, wireOf, within, mirrored, oneSided, Counts, headerLine, ruleLine, counted, rulesOfLines, readRules}
 use Rattle.texts.specs.Answers.{fine, accepted, readLines, after, afterLine}
 use Rattle.texts.specs.Coded.{Table, tableOf}
-use Rattle.texts.specs.Proofs.Tools.{never, both, neither, same-refl, In, any-false, all-true, among-in, in-among, in-split, Distinct}
+use Rattle.texts.specs.Proofs.Tools.{never, both, neither, same-refl, any-false, all-true, among-in, in-among, in-split, Distinct}
 use Rattle.texts.specs.Proofs.RuleMeans.{rules-accepted, lines-good, good-lines, addAll, add-agents, add-rules}
-use Rattle.texts.specs.Good.{Good, GoodFrom, GoodBook, SoundRule, SoundTable}
+use Rattle.texts.specs.Good.{Good, GoodFrom, GoodBook, SoundTable}
+use Rattle.texts.specs.Conditions.{SoundRule}
 
 -- A book is good exactly where each agent is good after the agents before it, and each rule after all agents and the rules before it.
 good-left : (xs ys : List Record) (b : Book) → GoodFrom b (xs ++ ys) → GoodFrom b xs

@@ -16,7 +16,8 @@ use Rattle.model.specs.Reading.{Reads, none, by-name, by-cell, ReadsAll, no-pai
 use Rattle.model.specs.Proofs.Cells.{_+++_, reads-append, one-outcome}
 use Rattle.model.specs.State.{from}
 use Rattle.texts.specs.Bytes.{keep}
-use Rattle.texts.specs.TableTest.{tally, unpaired, argsAll, sameSide, ahead, onward, void, walk, met}
+use Rattle.texts.specs.TableTest.{tally, argsAll, sameSide, ahead, onward, void, walk, met}
+use Rattle.texts.specs.Coded.{unpaired}
 use Rattle.texts.specs.Proofs.Tools.{pair, not-empty}
 use Rattle.texts.specs.Proofs.Linear.{one, tally-cons, tally-append}
 use Rattle.texts.specs.Proofs.Templates.{name-name, name-cell}

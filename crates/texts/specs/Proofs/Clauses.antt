@@ -12,8 +12,8 @@ use Rattle.parts.specs.Sides.{Side, name}
 use Rattle.model.specs.Table.{Entry}
 use Rattle.texts.specs.Bytes.{all}
 use Rattle.texts.specs.Books.{Agent}
-use Rattle.texts.specs.Coded.{second-from, new-from}
-use Rattle.texts.specs.TableTest.{tally, arityAt, cellOk, unpaired, allCodes, sameSide, codeOk, standing, walk, met, numbered, twoSided, testTemplate}
+use Rattle.texts.specs.Coded.{second-from, new-from, arityAt, unpaired}
+use Rattle.texts.specs.TableTest.{tally, cellOk, allCodes, sameSide, codeOk, standing, walk, met, numbered, twoSided, testTemplate}
 use Rattle.texts.specs.Proofs.Tools.{both, pair}
 
 pub to-standing : (often : ℕ) (cs : List Side) (k n : ℕ) → ((i : ℕ) → i < n → tally (sameSide (name (k + i))) cs ≡ often) → standing often cs k n ≡ true

@@ -18,12 +18,13 @@ use Rattle.parts.specs.Sides.{Side, name, cell}
 use Rattle.model.specs.Table.{Cell, Entry, arity, no-cell}
 use Rattle.model.specs.Table as Model
 use Rattle.model.specs.State.{from}
-use Rattle.model.specs.Sound.{first-new, InOrder, SoundEntry}
-use Rattle.texts.specs.Bytes.{all, any}
+use Rattle.model.specs.Sound.{first-new, InOrder}
+use Rattle.model.specs.SoundTable.{SoundEntry}
+use Rattle.texts.specs.Bytes.{all, any, In}
 use Rattle.texts.specs.Books.{Agent}
-use Rattle.texts.specs.Coded.{second-from, new-from}
-use Rattle.texts.specs.TableTest.{tally, arityAt, cellOk, unpaired, argsAll, allCodes, sameSide, codeOk, walk, met, numbered, turnsTo, twoSided, testTemplate}
-use Rattle.texts.specs.Proofs.Tools.{both, pair, In, all-true, true-all, empty}
+use Rattle.texts.specs.Coded.{second-from, new-from, arityAt, unpaired}
+use Rattle.texts.specs.TableTest.{tally, cellOk, argsAll, allCodes, sameSide, codeOk, walk, met, numbered, turnsTo, twoSided, testTemplate}
+use Rattle.texts.specs.Proofs.Tools.{both, pair, all-true, true-all, empty}
 use Rattle.texts.specs.Proofs.Linear.{tally-append}
 use Rattle.texts.specs.Proofs.Clauses.{to-standing, of-standing, Clauses, clauses-of, tested, Place, on-left, on-right, is-new, place, of-place}
 use Rattle.texts.specs.Proofs.CellReading.{Read, walk-reads, walked, Equations, equations, Sidewise, sidewise, name-count, cell-count}

@@ -9,20 +9,21 @@ use lib.ListN.{length, length-append}
 use lib.Dec.{ltb, leb}
 use borrow.Author.Tests.{leb-true, le-ltb, not-true}
 use Rattle.parts.specs.Limits.{identifier-max, symbols-max, arity-max, rules-max}
-use Rattle.texts.specs.Bytes.{any}
+use Rattle.texts.specs.Bytes.{any, In}
 use Rattle.texts.specs.Terms.{symbol}
 use Rattle.texts.specs.Books.{Agent, Rule, Book, Record, isAgent, isRule, add, recordsOf, declared, headOf}
 use Rattle.texts.specs.RuleText.{tooLong, bigRecord, bigBook, fault5, fault6, fault7, fault8, fault9, fault10, ruleless}
 use Rattle.model.specs.Table.{Entry}
 use Rattle.texts.specs.Coded.{symbolOf, template, Table, tableOf}
-use Rattle.texts.specs.Proofs.Tools.{both, noneOf, In, cons-eq}
+use Rattle.texts.specs.Proofs.Tools.{both, noneOf, cons-eq}
 use Rattle.texts.specs.Proofs.BookSound.{sound-table}
 use Rattle.texts.specs.Proofs.PairTable.{pair-table}
 use Rattle.texts.specs.TableTest.{pairTest, agentOk, testAgents, testTemplate, testTemplates, testTable}
 use Rattle.texts.specs.Proofs.Forward.{table-pass}
 use Rattle.texts.specs.Proofs.Backward.{rule, template-back}
 use Rattle.texts.specs.Proofs.Faultless.{no-7, no-8, no-10, no-big, spelt, sound-rule}
-use Rattle.texts.specs.Good.{Good, GoodFrom, GoodBook, Spelt, Placed, SoundRule, SoundTable}
+use Rattle.texts.specs.Good.{Good, GoodFrom, GoodBook, Spelt, Placed, SoundTable}
+use Rattle.texts.specs.Conditions.{SoundRule}
 
 -- A sound table passes.
 pub sound-passes : (t : Table) → SoundTable t → testTable t ≡ true

@@ -9,27 +9,28 @@ use lib.ListN.{length}
 use lib.Dec.{eqb, ltb}
 use borrow.Author.Tests.{eqb-true, le-ltb, eq-eqb}
 use Rattle.parts.specs.Limits.{level-max, identifier-max, rule-equations-max, rule-cells-max, rule-names-max}
-use Rattle.texts.specs.Bytes.{Word, times, any, all, same, among}
+use Rattle.texts.specs.Bytes.{Word, times, any, all, same, among, In}
 use Rattle.texts.specs.Terms.{count, identifier, Node, nodesIn, nodes, worded, wordeds}
 use Rattle.texts.specs.Books.{Agent, Rule, isRule, declared, takes, lefts, rights, headOf, argsOf, leftArgs, cellsOf, namesOf, newNames}
 use Rattle.texts.specs.RuleText.{allDifferent, wrongArgs, bigNode, tooLong, overNames, rightTimes, wrongTimes, bigRecord, fault7, fault8, fault10, oneSided, within, mirrored, wireOf}
 use Rattle.parts.specs.Sides.{name}
 use Rattle.model.specs.Table.{Entry}
-use Rattle.texts.specs.Coded.{symbolOf, second-from, new-from, ruleNumber, template}
-use Rattle.texts.specs.Proofs.Tools.{both, pair, noneOf, Distinct, false-any, all-true, In, any-append, same-eq, empty}
+use Rattle.texts.specs.Coded.{symbolOf, second-from, new-from, ruleNumber, template, arityAt, unpaired}
+use Rattle.texts.specs.Proofs.Tools.{both, pair, noneOf, Distinct, false-any, all-true, any-append, same-eq, empty}
 use Rattle.texts.specs.Proofs.Linear.{takes-name}
 use Rattle.texts.specs.Proofs.BookSound.{faults-sound}
 use Rattle.texts.specs.Proofs.Selves.{codes-back, into-back}
 use Rattle.texts.specs.Proofs.Templates.{Few, template-cells, template-count, cell-none, name-cell, name-name, tally-ext}
 use Rattle.texts.specs.Proofs.NetMeans.{nodes-append}
-use Rattle.texts.specs.TableTest.{tally, arityAt, unpaired, allCodes, sameSide, codeOk, standing, met, turnsTo, twoSided, testAgents, testTemplate}
+use Rattle.texts.specs.TableTest.{tally, allCodes, sameSide, codeOk, standing, met, turnsTo, twoSided, testAgents, testTemplate}
 use Rattle.texts.specs.Proofs.Clauses.{of-standing, Place, on-left, on-right, is-new, place}
 use Rattle.texts.specs.Proofs.Agents.{symbol-at}
 use Rattle.texts.specs.Proofs.Respelt.{word, word-same}
 use Rattle.texts.specs.Proofs.Renumbered.{row-length, row-in, row-none, row-distinct}
 use Rattle.texts.specs.Proofs.Backward.{clauses, few-left, small-code, good-sides, built, args-are, rights-are, met-names, heads-are, first-at, second-at, right-not, new-not, arg-code, arg-plain, arg-undeclared, new-count, code-of, template-back}
 use Rattle.texts.specs.Proofs.Backward as Back
-use Rattle.texts.specs.Good.{SoundRule, Spelt}
+use Rattle.texts.specs.Good.{Spelt}
+use Rattle.texts.specs.Conditions.{SoundRule}
 use Rattle.texts.specs.Proofs.RuleSound.{of-distinct}
 use Rattle.texts.specs.Proofs.TermLists.{unpack, unpack-length, bareTerms, bare-heads, named, met-all, among-append, nodes-unpack, worded-unpack, pairs-length, bare-any, bare-worded, two-any, distinct-append, map-in}
 

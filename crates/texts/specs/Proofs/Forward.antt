@@ -8,18 +8,18 @@ use lib.ListN.{length, length-map}
 use lib.Dec.{eqb, ltb}
 use borrow.Author.Tests.{eqb-true, eq-eqb, le-leb, ltb-false}
 use Rattle.parts.specs.Limits.{symbols-max, rules-max}
-use Rattle.texts.specs.Bytes.{any, all, same}
+use Rattle.texts.specs.Bytes.{any, all, same, In}
 use Rattle.texts.specs.Books.{Agent, Rule, Book, isAgent, isRule, add, headOf, argsOf, newNames}
 use Rattle.texts.specs.RuleText.{bigRecord, bigBook, fault5, fault9, samePair}
-use Rattle.texts.specs.Coded.{symbolOf, second-from, new-from, template, tableOf}
-use Rattle.texts.specs.Proofs.Tools.{pair, neither, In, same-eq}
+use Rattle.texts.specs.Coded.{symbolOf, second-from, new-from, template, tableOf, arityAt}
+use Rattle.texts.specs.Proofs.Tools.{pair, neither, same-eq}
 use Rattle.texts.specs.Proofs.BookSound.{good-sound, agent-good, rule-good}
 use Rattle.texts.specs.Proofs.Clauses.{to-standing, tested}
 use Rattle.texts.specs.Proofs.Agents.{agents-tested}
 use Rattle.texts.specs.Proofs.Templates.{template-cells, right-args}
 use Rattle.texts.specs.Proofs.TableSound.{rule-few, templates-sound}
 use Rattle.texts.specs.Proofs.PairTable.{symbol-same, pair-table}
-use Rattle.texts.specs.TableTest.{arityAt, pairTest, turnsTo, twoSided, testTemplate, testTemplates, testTable}
+use Rattle.texts.specs.TableTest.{pairTest, turnsTo, twoSided, testTemplate, testTemplates, testTable}
 use Rattle.texts.specs.Proofs.Ranged.{walk-passes, numbered-passes, codes-pass, first-arity, second-arity}
 use Rattle.texts.specs.Proofs.Selves.{codes-back}
 use Rattle.texts.specs.Good.{GoodBook}

@@ -10,20 +10,20 @@ use Rattle.calculus.specs.Terms.{names, eqs-names, δ, count, occurs}
 use Rattle.calculus.specs.Proofs.Count.{sum-append}
 use Rattle.calculus.specs.Calculus.{Closed}
 use Rattle.calculus.specs.Nets.{_≈_}
-use Rattle.model.specs.Load.{NetReads, loaded}
+use Rattle.model.specs.Load.{loaded}
+use Rattle.model.specs.NetReads.{NetReads}
 use Rattle.model.specs.Kept as Kept
 use Rattle.model.specs.State.{from}
 use Rattle.model.specs.Table.{arity}
 use Rattle.model.specs.Sound.{Means, Sound, meaning}
-use Rattle.model.specs.Sound as Machine
+use Rattle.model.specs.SoundTable as Machine
 use Rattle.texts.specs.Books.{Rule, Book, Net}
 use Rattle.texts.specs.Answers.{accepted}
 use Rattle.texts.specs.RuleText.{readRules}
 use Rattle.texts.specs.NetText.{readNet}
-use Rattle.texts.specs.Coded.{Table, template, tableOf, machine, load}
+use Rattle.texts.specs.Coded.{Table, template, tableOf, machine, load, arityAt}
 use Rattle.texts.specs.Meaning.{meantRule, meantNet}
-use Rattle.texts.specs.TableTest.{arityAt}
-use Rattle.texts.specs.Proofs.Tools.{In}
+use Rattle.texts.specs.Bytes.{In}
 use Rattle.texts.specs.Proofs.RuleMeans.{rules-accepted}
 use Rattle.texts.specs.Proofs.NetMeans.{net-accepted}
 use Rattle.texts.specs.Proofs.BookSound.{good-sound}
@@ -32,7 +32,8 @@ use Rattle.texts.specs.Proofs.Forward.{table-pass}
 use Rattle.texts.specs.Proofs.Exact.{test-sound}
 use Rattle.texts.specs.Proofs.Tables.{arity-is, test-machine, machine-test}
 use Rattle.texts.specs.Proofs.Nets.{rule-means, net-reads}
-use Rattle.texts.specs.Good.{GoodBook, GoodNet, SoundTable, SpeltAgents}
+use Rattle.texts.specs.Good.{GoodBook, GoodNet, SoundTable}
+use Rattle.texts.specs.Conditions.{SpeltAgents}
 use Rattle.texts.specs.Proofs.Rows.{from-in, from-out}
 
 pub sound-exact : (t : Table) → SoundTable t ↔ (SpeltAgents (t .agents) × Machine.SoundTable (machine t))

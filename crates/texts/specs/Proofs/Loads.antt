@@ -7,15 +7,15 @@ use native.Mathlib.Omega.{arith}
 use lib.ListN.{length, length-append}
 use lib.Dec.{eqb}
 use borrow.Author.Tests.{eq-eqb}
-use Rattle.texts.specs.Bytes.{Word, any, keep, same, times, different, indexOf}
+use Rattle.texts.specs.Bytes.{Word, any, keep, same, times, different, indexOf, In}
 use Rattle.texts.specs.Terms.{Term, nodesAt, nodes, wordsOf}
 use Rattle.texts.specs.Books.{Agent, Net, declared, takes, sides, cellsOf, namesOf, netTerms}
 use Rattle.texts.specs.RuleText.{wrongArgs, wordAt}
 use Rattle.parts.specs.Sides.{Side, name, cell}
 use Rattle.model.specs.Load as Loading
-use Rattle.texts.specs.Coded.{packed, size, codes, cellsAt, cellsFrom, netNumber, load}
-use Rattle.texts.specs.TableTest.{unpaired, argsAll, sameSide, tally}
-use Rattle.texts.specs.Proofs.Tools.{In, false-any, keep-append}
+use Rattle.texts.specs.Coded.{packed, size, codes, cellsAt, cellsFrom, netNumber, load, unpaired}
+use Rattle.texts.specs.TableTest.{argsAll, sameSide, tally}
+use Rattle.texts.specs.Proofs.Tools.{false-any, keep-append}
 use Rattle.texts.specs.Proofs.NetSound.{SoundNet}
 use Rattle.texts.specs.Proofs.Linear.{words-append, tally-append, cellTally, code-count, cell-count}
 use Rattle.texts.specs.Proofs.Places.{at-in, index-all, different-in, different-distinct}
@@ -31,7 +31,7 @@ cells-cons ags t ts =
     rw (words-append (nodesAt 1 t) (nodes ts), keep-append (declared ags) (wordsOf (nodesAt 1 t)) (wordsOf (nodes ts)), append-nil (nodesAt 1 t))
     (length-append (keep (declared ags) (wordsOf (nodesAt 1 t))) (keep (declared ags) (wordsOf (nodes ts))))
 
-cells-nil : (ags : List Agent) → length (cellsOf ags []) ≡ 0
+pub cells-nil : (ags : List Agent) → length (cellsOf ags []) ≡ 0
 unfolding cellsOf nodes wordsOf keep
 cells-nil ags = refl
 

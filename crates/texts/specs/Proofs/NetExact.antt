@@ -10,17 +10,18 @@ use lib.ListN.{length}
 use lib.Dec.{ltb}
 use borrow.Author.Tests.{ltb-true, ltb-false, lt-ltb, le-ltb, eqb-true, eqb-false, not-true, not-false}
 use Rattle.parts.specs.Limits.{text-max}
-use Rattle.texts.specs.Bytes.{Word, Line, any, times, fault2, fields, lines}
+use Rattle.texts.specs.Bytes.{Word, Line, any, times, fault2, fields, lines, In}
 use Rattle.texts.specs.Terms.{Term}
 use Rattle.texts.specs.Books.{Agent, Net, namesOf, netTerms, wordNet}
 use Rattle.texts.specs.Answers.{fine, fault, OfText, refused, absent, holds, _>>=_, need, readLines, after}
 use Rattle.texts.specs.RuleText.{Counts, headerLine, termsOf}
 use Rattle.texts.specs.NetText.{faceFields, eqFields, netFault5, netFault7, netJudged, faceNet, moreNet, faceLine, eqLine, loose, netLines, looseLine, unlessLoose, tied, netCounted, faceAndEqs, netOfLines, readNet}
-use Rattle.texts.specs.Proofs.Tools.{neither, In, any-true, any-false}
+use Rattle.texts.specs.Proofs.Tools.{neither, any-true, any-false}
 use Rattle.texts.specs.Proofs.Firsts.{Agrees, agrees-fine, agrees-skip, agrees-refuse, agrees-none, agrees-some, agrees-first}
 use Rattle.texts.specs.Proofs.Reading.{lines-accepted, lines-refused, After, before, behind, after-refused, AfterLine, here, later, line-refused}
 use Rattle.texts.specs.Proofs.RuleExact.{header-exact, counts-exact}
-use Rattle.texts.specs.Refused.{netTests, faceTests, eqTests, First, Reads, LooseAt, Loose, NetCounted, NetLinesRefused, noLine, badHeader, noFace, badFace, badLine, badCount, badName, NetRefused, tooLong, inLines}
+use Rattle.texts.specs.Refused.{First, NetLinesRefused, noLine, badHeader, noFace, badFace, badLine, badCount, badName, NetRefused, tooLong, inLines}
+use Rattle.texts.specs.Tests.{netTests, faceTests, eqTests, Reads, LooseAt, Loose, NetCounted}
 
 -- A line.
 terms-agree : (ags : List Agent) (net : List Term → Net) (ts : List Term)

@@ -22,7 +22,7 @@ use Rattle.texts.specs.Proofs.Plain.{word-plain, spells-plain, decimal-p
 use Rattle.texts.specs.Proofs.Means.{two, header-fine}
 use Rattle.texts.specs.Proofs.NetLines.{words-plain, face-back, face-fine, eq-back, eq-fine}
 use Rattle.texts.specs.Proofs.Reading.{lines-accepted, after-accepted, line-accepted}
-use Rattle.texts.specs.Refused.{Reads}
+use Rattle.texts.specs.Tests.{Reads}
 use Rattle.texts.specs.Good.{GoodTerms, termsIn, GoodEquations, GoodNet}
 
 -- The lines of a text.

@@ -4,13 +4,13 @@ use mathlib.Core.Path.{_≡_, refl}
 use mathlib.Core.Bool.{false}
 use mathlib.Core.List.{List, [], _∷_, _++_}
 use borrow.Author.Tests.{eqb-true, not-false}
-use Rattle.texts.specs.Bytes.{Word, Line, any, times}
+use Rattle.texts.specs.Bytes.{Word, Line, any, times, In}
 use Rattle.texts.specs.Terms.{Term, Node, nodes}
 use Rattle.texts.specs.Books.{Agent, Equation, Net, takes, namesOf, sides, netTerms, wordNet}
 use Rattle.texts.specs.Answers.{fine, accepted, afterLine}
 use Rattle.texts.specs.RuleText.{Counts, headerLine, wrongArgs}
 use Rattle.texts.specs.NetText.{netFault7, faceNet, moreNet, loose, faceAndEqs, netOfLines, readNet}
-use Rattle.texts.specs.Proofs.Tools.{In, any-false, any-append, noneOf}
+use Rattle.texts.specs.Proofs.Tools.{any-false, any-append, noneOf}
 use Rattle.texts.specs.Proofs.NetMeans.{nodes-append, net-accepted}
 use Rattle.texts.specs.Good.{GoodEquations, GoodNet, termsIn}
 

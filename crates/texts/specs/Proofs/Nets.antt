@@ -15,15 +15,16 @@ use Rattle.parts.specs.Sides.{name}
 use Rattle.model.specs.Table.{Cell, arity, no-cell}
 use Rattle.model.specs.Reading.{Reads, ReadsAll}
 use Rattle.model.specs.Table as Model
-use Rattle.model.specs.Load.{NetReads}
+use Rattle.model.specs.NetReads.{NetReads}
 use Rattle.model.specs.State.{from}
-use Rattle.model.specs.Sound.{InOrder, Means, Declared}
+use Rattle.model.specs.Sound.{InOrder, Means}
+use Rattle.model.specs.SoundTable.{Declared}
 use Rattle.texts.specs.Bytes.{Word, all, different, indexOf}
 use Rattle.texts.specs.Terms.{Term, Terms}
 use Rattle.texts.specs.Books.{Agent, Equation, Rule, Net, declared, sides, rights, cellsOf, namesOf, netTerms}
-use Rattle.texts.specs.Coded.{packed, codes, cellsFrom, ruleNumber, template, netNumber, load, second-from}
+use Rattle.texts.specs.Coded.{packed, codes, cellsFrom, ruleNumber, template, netNumber, load, second-from, arityAt, unpaired}
 use Rattle.texts.specs.Meaning.{tree, trees, treeEquations, meantRule, meantNet}
-use Rattle.texts.specs.TableTest.{tally, arityAt, cellOk, unpaired, argsAll, sameSide, met}
+use Rattle.texts.specs.TableTest.{tally, cellOk, argsAll, sameSide, met}
 use Rattle.texts.specs.Proofs.Tools.{both, pair, in-among}
 use Rattle.texts.specs.Proofs.Places.{index-less, in-different}
 use Rattle.texts.specs.Proofs.Linear.{wordsIn, words-all, bare, bares, line-bare, tally-append, cell-count, cells-terms}
@@ -34,7 +35,8 @@ use Rattle.texts.specs.Proofs.Loads.{allSides, ok, sides-are, load-count
 use Rattle.texts.specs.Proofs.TableSound.{load-sound}
 use Rattle.texts.specs.Proofs.CellReading.{walked, name-count, sidewise, Held}
 use Rattle.texts.specs.Proofs.Trees.{from-append, held-left, held-right, read-terms, read-equations}
-use Rattle.texts.specs.Good.{SoundRule, GoodNet}
+use Rattle.texts.specs.Good.{GoodNet}
+use Rattle.texts.specs.Conditions.{SoundRule}
 use Rattle.texts.specs.Proofs.Rows.{in-order, all-at, from-in, from-out}
 
 -- The number of cells, counted in words and in terms.

@@ -6,10 +6,10 @@ use mathlib.Core.List.{List, [], _∷_, _++_, append-assoc, append-nil, map, Lis
 use native.Mathlib.Omega.{arith}
 use lib.ListN.{length, length-append}
 use borrow.Author.Tests.{eq-eqb, ne-eqb, lt-ltb}
-use Rattle.texts.specs.Bytes.{Word, any, all, keep, same, among, different, indexOf}
+use Rattle.texts.specs.Bytes.{Word, any, all, keep, same, among, different, indexOf, In}
 use Rattle.texts.specs.Coded.{new-from}
 use Rattle.texts.specs.TableTest.{tally, numbered}
-use Rattle.texts.specs.Proofs.Tools.{any-append, In, same-eq}
+use Rattle.texts.specs.Proofs.Tools.{any-append, same-eq}
 use Rattle.texts.specs.Proofs.Places.{same-turn, index-less, index-left, index-next, keep-keep}
 use Rattle.texts.specs.Proofs.Linear.{tally-cons}
 

@@ -4,14 +4,14 @@ use mathlib.Core.Path.{_≡_, refl, sym, _∙_}
 use mathlib.Core.Bool.{Bool, true, false, cond, _||_}
 use mathlib.Core.List.{List, [], _∷_, map, List·Memᴰ·head, List·Memᴰ·tail}
 use lib.Dec.{eqb, eqb·zero-suc, eqb·suc-zero, eqb·suc-suc}
-use Rattle.texts.specs.Bytes.{Word, any, same, among, indexOf}
+use Rattle.texts.specs.Bytes.{Word, any, same, among, indexOf, In}
 use Rattle.texts.specs.Books.{Agent, Rule, declared, headOf}
 use Rattle.texts.specs.RuleText.{samePair}
 use Rattle.texts.specs.Coded.{symbolOf, template}
 use Rattle.texts.specs.TableTest.{pairTest}
-use Rattle.texts.specs.Proofs.Tools.{never, same-refl, same-eq, In}
+use Rattle.texts.specs.Proofs.Tools.{never, same-refl, same-eq}
 use Rattle.texts.specs.Proofs.Places.{same-turn}
-use Rattle.texts.specs.Good.{SoundRule}
+use Rattle.texts.specs.Conditions.{SoundRule}
 
 index-same : (xs : List Word) (v w : Word) → among v xs ≡ true → among w xs ≡ true → eqb (indexOf v xs) (indexOf w xs) ≡ same v w
 unfolding indexOf among any

@@ -8,22 +8,22 @@ use native.Mathlib.Omega.{arith}
 use lib.ListN.{length}
 use lib.Dec.{eqb}
 use borrow.Author.Tests.{eq-eqb, lt-ltb, le-ltb, not-true}
-use Rattle.texts.specs.Bytes.{Word, any, all, keep, among, different, indexOf}
+use Rattle.texts.specs.Bytes.{Word, any, all, keep, among, different, indexOf, In}
 use Rattle.texts.specs.Terms.{Term, Terms, term, nil, cons, count, nodesAt, nodes, wordsOf}
 use Rattle.texts.specs.Books.{Agent, Rule, declared, takes, sides, lefts, rights, headOf, heads, argsOf, leftArgs, cellsOf, namesOf, newNames}
 use Rattle.texts.specs.RuleText.{wrongArgs}
 use Rattle.parts.specs.Sides.{name, cell}
-use Rattle.texts.specs.Coded.{packed, codes, cellsFrom, second-from, new-from, ruleNumber, template}
-use Rattle.texts.specs.Proofs.Tools.{never, both, In, among-in, in-among, false-any}
+use Rattle.texts.specs.Coded.{packed, codes, cellsFrom, second-from, new-from, ruleNumber, template, arityAt, unpaired}
+use Rattle.texts.specs.Proofs.Tools.{never, both, among-in, in-among, false-any}
 use Rattle.texts.specs.Proofs.NetMeans.{nodes-append}
 use Rattle.texts.specs.Proofs.Linear.{words, wordsIn, words-all, bare, bares, line-bare, no-terms}
 use Rattle.texts.specs.Proofs.Places.{index-less, keep-in, in-keep, in-different}
 use Rattle.texts.specs.Proofs.Templates.{Few, unpaired-twos, codes-even, template-count, template-cells, tally-ext, tally-none, cell-none, right-args}
 use Rattle.texts.specs.Proofs.TableSound.{head-arity}
-use Rattle.texts.specs.TableTest.{arityAt, unpaired, allCodes, codeOk, walk, met, void, ahead, onward, numbered}
+use Rattle.texts.specs.TableTest.{allCodes, codeOk, walk, met, void, ahead, onward, numbered}
 use Rattle.texts.specs.Proofs.SideWalk.{walk-terms, met-terms}
 use Rattle.texts.specs.Proofs.Numbering.{numbered-all, tally-zero}
-use Rattle.texts.specs.Good.{SoundRule}
+use Rattle.texts.specs.Conditions.{SoundRule}
 
 walk-nil : (m : ℕ) → walk m [] [] ≡ true
 unfolding walk onward void

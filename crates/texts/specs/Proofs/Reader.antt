@@ -8,7 +8,6 @@ use Rattle.texts.specs.Bytes.{Word, wordByte}
 use Rattle.texts.specs.Terms.{identifier, Term, Terms, term, nil, cons}
 
 -- What is read: a word begun, the arguments after it, and the terms of each bracket that is closed and not opened yet.
--- What is read: a word begun, the arguments after it, and the terms of each bracket that is closed and not opened yet.
 pub data Part : Type 0 where
   part : (word : Word) → (args : Terms) → (outer : List Terms) → Part
   wrong : Part

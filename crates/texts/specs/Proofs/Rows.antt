@@ -15,10 +15,10 @@ use Rattle.parts.specs.Sides.{Side, name, cell}
 use Rattle.model.specs.Table as Model
 use Rattle.model.specs.State.{from}
 use Rattle.model.specs.Sound.{first-new, InOrder}
-use Rattle.texts.specs.Bytes.{all, keep}
+use Rattle.texts.specs.Bytes.{all, keep, In}
 use Rattle.texts.specs.Coded.{new-from}
 use Rattle.texts.specs.TableTest.{tally, sameSide, numbered}
-use Rattle.texts.specs.Proofs.Tools.{never, both, pair, In}
+use Rattle.texts.specs.Proofs.Tools.{never, both, pair}
 use Rattle.texts.specs.Proofs.Linear.{one, tally-cons}
 
 -- How often a number stands in a row.

@@ -17,7 +17,8 @@ use Rattle.texts.specs.RuleText.{Counts, headerOf, Shape, recordOf, faul
 use Rattle.texts.specs.Proofs.Tools.{never, both, pair}
 use Rattle.texts.specs.Proofs.Reading.{lines-accepted, lines-refused, After, before, behind, after-refused, AfterLine, here, later, line-refused}
 use Rattle.texts.specs.Proofs.Firsts.{Agrees, agrees-fine, agrees-skip, agrees-refuse, agrees-none, agrees-some, agrees-first}
-use Rattle.texts.specs.Refused.{ruleTests, headerTests, First, Counted, RuleLinesRefused, noLine, badHeader, badLine, badCount, RulesRefused, tooLong, inLines}
+use Rattle.texts.specs.Refused.{First, RuleLinesRefused, noLine, badHeader, badLine, badCount, RulesRefused, tooLong, inLines}
+use Rattle.texts.specs.Tests.{ruleTests, headerTests, Counted}
 
 -- A line.
 judged-agrees : (b : Book) (r : Record) → Agrees 5 (judged b r) (fault5 b r ∷ fault6 b r ∷ fault7 b r ∷ fault8 b r ∷ fault9 b r ∷ fault10 b r ∷ [])

@@ -19,8 +19,9 @@ use Rattle.texts.specs.Proofs.Splitting.{free, endedLine, bytesOf, endsO
 use Rattle.texts.specs.Proofs.Plain.{inField, Plain, Plains, word-plain, symbol-plain, spells-plain, decimal-plain, line-tabs, line-bytes, line-newlines}
 use Rattle.texts.specs.Proofs.Means.{refuse-fine, need-fine, line-ended, even-sides, even-map, some-plain, two, header-fine}
 use Rattle.texts.specs.Proofs.Reading.{lines-accepted, after-accepted, line-accepted}
-use Rattle.texts.specs.Refused.{Reads}
-use Rattle.texts.specs.Good.{shapeFields, Fits, shapeFor, Spelt, Placed, Good, GoodFrom, GoodBook}
+use Rattle.texts.specs.Tests.{Reads}
+use Rattle.texts.specs.Good.{Spelt, Placed, Good, GoodFrom, GoodBook}
+use Rattle.texts.specs.Conditions.{shapeFields, Fits, shapeFor}
 use Rattle.texts.specs.Proofs.Shapes.{to-shape, from-shape, to-record, from-record}
 
 -- Number 3: the shapes that a line can have.

@@ -5,13 +5,13 @@ use mathlib.Core.Logic.{_↔_, ⊎-elim}
 use mathlib.Core.List.{List, [], _∷_, _++_, List·Memᴰ·append-cases, Memᴰ·append-left, Memᴰ·append-right}
 use lib.Dec.{eqb}
 use borrow.Author.Tests.{eq-eqb}
-use Rattle.texts.specs.Bytes.{Word, all, among, times}
+use Rattle.texts.specs.Bytes.{Word, all, among, times, In}
 use Rattle.texts.specs.Terms.{Term, nodes}
 use Rattle.texts.specs.Books.{Rule, Book, isRule, declared, takes, namesOf, lefts, rights, headOf, argsOf, leftArgs}
 use Rattle.texts.specs.RuleText.{fault7, fault8, wrongArgs, overNames, allDifferent, rightTimes, wrongTimes}
-use Rattle.texts.specs.Proofs.Tools.{never, pair, noneOf, In, false-any, true-all, among-in, in-among, Distinct}
+use Rattle.texts.specs.Proofs.Tools.{never, pair, noneOf, false-any, true-all, among-in, in-among, Distinct}
 use Rattle.texts.specs.Proofs.BookSound.{faults-sound}
-use Rattle.texts.specs.Good.{SoundRule}
+use Rattle.texts.specs.Conditions.{SoundRule}
 
 not-among : (w : Word) (ws : List Word) → ¬ In w ws → among w ws ≡ false
 not-among w ws h = go (among w ws) refl

@@ -4,20 +4,20 @@ use mathlib.Core.Bool.{Bool, true, false, not}
 use mathlib.Core.Logic.{_⊎_, inl, inr, ⊎-elim}
 use mathlib.Core.List.{List, [], _∷_, _++_, map, List·Memᴰ·head, List·Memᴰ·cases-cons, List·Memᴰ·not-nil, Memᴰ·append-right}
 use lib.ListN.{length}
-use Rattle.texts.specs.Bytes.{Word, any, all, among}
+use Rattle.texts.specs.Bytes.{Word, any, all, among, In}
 use Rattle.texts.specs.Terms.{Term, term, nodes, wordsOf}
 use Rattle.texts.specs.Books.{Agent, Rule, Equation, declared, sides, rights, headOf, argsOf, cellsOf, namesOf, newNames}
 use Rattle.texts.specs.RuleText.{mirrored, wireOf, within}
 use Rattle.parts.specs.Sides.{name, _:=_}
 use Rattle.texts.specs.Coded.{packed, ruleNumber, template}
-use Rattle.texts.specs.Proofs.Tools.{never, In}
+use Rattle.texts.specs.Proofs.Tools.{never}
 use Rattle.texts.specs.Proofs.Linear.{words, wordsIn, words-all}
 use Rattle.texts.specs.TableTest.{turnsTo}
 use Rattle.texts.specs.Proofs.Places.{in-keep}
 use Rattle.texts.specs.Proofs.Templates.{Few}
 use Rattle.texts.specs.Proofs.Ranged.{right-name}
 use Rattle.texts.specs.Proofs.Turning.{turned-is, back-is, into-is, equations-are}
-use Rattle.texts.specs.Good.{SoundRule}
+use Rattle.texts.specs.Conditions.{SoundRule}
 
 head-in : (t : Term) (ws : List Word) → In (headOf t) (words t ++ ws)
 unfolding headOf words

@@ -14,7 +14,8 @@ use Rattle.texts.specs.Proofs.Splitting.{number-decimal, decimal-number}
 use Rattle.texts.specs.Proofs.Spelling.{term-spell, spell-term}
 use Rattle.texts.specs.Proofs.Means.{nothing, terms-spell, spell-terms, sides-pairs, pairs-sides, even-map}
 use Rattle.texts.specs.Proofs.Reader.{termOf}
-use Rattle.texts.specs.Good.{shapeFields, Fits, shapeFor, Spelt}
+use Rattle.texts.specs.Good.{Spelt}
+use Rattle.texts.specs.Conditions.{shapeFields, Fits, shapeFor}
 
 pub agent-shape : (b : Book) (fs : List Word) (s : Shape) → ruleless b ≡ true → agentFields fs ≡ some s → (shapeFields s ≡ wordAgent ∷ fs) × Fits b s
 unfolding agentFields shapeFields Fits

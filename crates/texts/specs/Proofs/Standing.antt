@@ -11,8 +11,7 @@ use Rattle.calculus.specs.Proofs.Count.{sum-append}
 use Rattle.model.specs.Table.{Entry}
 use Rattle.model.specs.State.{from}
 use Rattle.texts.specs.Books.{Agent}
-use Rattle.texts.specs.Coded.{second-from, new-from}
-use Rattle.texts.specs.TableTest.{arityAt}
+use Rattle.texts.specs.Coded.{second-from, new-from, arityAt}
 use Rattle.texts.specs.Proofs.Clauses.{Place, on-left, on-right, is-new}
 use Rattle.texts.specs.Proofs.Wires.{Wire, eqnOf, ends, ends-names, Arg, Once}
 use Rattle.texts.specs.Proofs.Rows.{from-out, from-in}

@@ -7,16 +7,16 @@ use lib.ListN.{length}
 use lib.Dec.{ltb}
 use borrow.Author.Tests.{ltb-false, lt-ltb, eqb-true, eq-eqb, not-false}
 use Rattle.parts.specs.Limits.{arity-max, rule-equations-max, rule-cells-max, rule-names-max, face-max, net-equations-max, net-cells-max, net-names-max}
-use Rattle.texts.specs.Bytes.{Word, any, all, different}
+use Rattle.texts.specs.Bytes.{Word, any, all, different, In}
 use Rattle.texts.specs.Terms.{Term, Terms, term, nil, cons, count, Node, nodesAt, nodesIn, nodes}
 use Rattle.texts.specs.Books.{Agent, Equation, Rule, Book, isRule, declared, takes, sides, lefts, rights, headOf, heads, argsOf, cellsOf, namesOf, newNames, add, Net, netTerms}
 use Rattle.texts.specs.RuleText.{wrongArgs, bigNode, bigRecord, bigBook, fault5}
 use Rattle.parts.specs.Sides.{name, cell}
 use Rattle.model.specs.Table.{Entry}
 use Rattle.model.specs.Load as Loading
-use Rattle.texts.specs.Coded.{symbolOf, twos, packed, size, codes, cellsAt, cellsFrom, second-from, new-from, ruleNumber, template, netNumber, load}
-use Rattle.texts.specs.TableTest.{arityAt, cellOk, allCodes, sameSide, tally}
-use Rattle.texts.specs.Proofs.Tools.{pair, neither, any-append, all-append, In, in-split}
+use Rattle.texts.specs.Coded.{symbolOf, twos, packed, size, codes, cellsAt, cellsFrom, second-from, new-from, ruleNumber, template, netNumber, load, arityAt}
+use Rattle.texts.specs.TableTest.{cellOk, allCodes, sameSide, tally}
+use Rattle.texts.specs.Proofs.Tools.{pair, neither, any-append, all-append, in-split}
 use Rattle.texts.specs.Proofs.BookSound.{good-sound, rule-good}
 use Rattle.texts.specs.Proofs.Agents.{symbol-number, few-args, agents-tested}
 use Rattle.texts.specs.NetText.{bigNet}
@@ -24,7 +24,8 @@ use Rattle.texts.specs.Proofs.NetMeans.{net-good-small}
 use Rattle.texts.specs.Proofs.NetSound.{SoundNet, net-sound}
 use Rattle.texts.specs.Proofs.Loads.{allSides, ok as args-ok, load-cells, name-twice, cell-once as net-cell-once}
 use Rattle.texts.specs.Proofs.Templates.{Few, template-cells, right-args, left-once, right-once, new-twice, cell-once}
-use Rattle.texts.specs.Good.{Good, GoodBook, SoundRule, GoodNet}
+use Rattle.texts.specs.Good.{Good, GoodBook, GoodNet}
+use Rattle.texts.specs.Conditions.{SoundRule}
 
 pub codes-length : (ags : List Agent) (number : Word → ℕ) (ts : Terms) (m : ℕ) → length (codes ags number m ts) ≡ count ts
 unfolding codes count

@@ -14,17 +14,18 @@ use Rattle.parts.specs.Limits.{identifier-max, arity-max, symbols-max, rules-ma
 use Rattle.calculus.specs.Calculus.{Rule, SamePair}
 use Rattle.model.specs.Table.{Entry, arity, no-entry}
 use Rattle.model.specs.Table as Model
-use Rattle.model.specs.Sound.{SoundEntry}
+use Rattle.model.specs.SoundTable.{SoundEntry}
 use Rattle.model.specs.Sound as Machine
-use Rattle.texts.specs.Bytes.{Word, any, all, same}
+use Rattle.model.specs.SoundTable as SoundTable
+use Rattle.texts.specs.Bytes.{Word, any, all, same, In}
 use Rattle.texts.specs.Terms.{symbol}
 use Rattle.texts.specs.Books.{Agent, declared}
-use Rattle.texts.specs.Coded.{Table, machine}
-use Rattle.texts.specs.TableTest.{agentOk, testAgents, arityAt, pairTest, testTemplate, testTemplates, testTable}
-use Rattle.texts.specs.Proofs.Tools.{never, all-true, both, pair, noneOf, neither, In, any-false, false-any, same-eq, Distinct}
+use Rattle.texts.specs.Coded.{Table, machine, arityAt}
+use Rattle.texts.specs.TableTest.{agentOk, testAgents, pairTest, testTemplate, testTemplates, testTable}
+use Rattle.texts.specs.Proofs.Tools.{never, all-true, both, pair, noneOf, neither, any-false, false-any, same-eq, Distinct}
 use Rattle.texts.specs.Proofs.Agents.{symbols, agents-apart, ok-parts, few-args}
 use Rattle.texts.specs.Proofs.Entries.{rule, entry-sound, entry-tested}
-use Rattle.texts.specs.Good.{SpeltAgents}
+use Rattle.texts.specs.Conditions.{SpeltAgents}
 
 -- The arities of the machine's table.
 pub arity-is : (ags : List Agent) (s : ℕ) → getD (map (λ a. a .arity) ags) s 0 ≡ arityAt ags s
@@ -188,7 +189,7 @@ module _ (t : Table) where
   unfolding machine
   lengths = (length-map ags (λ a. a .arity), arity-is ags, refl)
 
-  pub test-machine : testTable t ≡ true → SpeltAgents ags × Machine.SoundTable (machine t)
+  pub test-machine : testTable t ≡ true → SpeltAgents ags × SoundTable.SoundTable (machine t)
   unfolding testTable machine
   test-machine h =
       let p = both _ (testTemplates ags [] (t .rules)) h in
@@ -226,7 +227,7 @@ module _ (t : Table) where
           by (no x) (yes y) = absurd (apart ags (t .rules) [] g j i y k (turned same))
           by (no x) (no y) = omega (arith, x, y)
 
-  pub machine-test : SpeltAgents ags → Machine.SoundTable (machine t) → testTable t ≡ true
+  pub machine-test : SpeltAgents ags → SoundTable.SoundTable (machine t) → testTable t ≡ true
   unfolding testTable machine
   machine-test s m =
       let few : (n : ℕ) → arityAt ags n ≤ arity-max = λ n. subst (λ k. k ≤ arity-max) (arity-is ags n) (m .arities n) in

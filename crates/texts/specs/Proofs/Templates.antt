@@ -10,17 +10,17 @@ use lib.Dec.{eqb}
 use borrow.Author.Tests.{eqb-true, eqb-false, eq-eqb, ne-eqb, not-true}
 use Rattle.parts.specs.Limits.{arity-max}
 use Rattle.parts.specs.Sides.{Side, name, cell}
-use Rattle.texts.specs.Bytes.{Word, any, keep, same, among, times, indexOf}
+use Rattle.texts.specs.Bytes.{Word, any, keep, same, among, times, indexOf, In}
 use Rattle.texts.specs.Terms.{Term, Terms, term, nil, cons, nodes, wordsOf}
 use Rattle.texts.specs.Books.{Agent, Equation, Rule, declared, takes, sides, lefts, rights, headOf, heads, argsOf, leftArgs, cellsOf, namesOf, newNames}
 use Rattle.texts.specs.RuleText.{even, wrongArgs, wordAt}
-use Rattle.texts.specs.Coded.{twos, packed, codes, cellsFrom, second-from, new-from, ruleNumber, template}
-use Rattle.texts.specs.TableTest.{unpaired, argsAll, allCodes, sameSide, tally}
-use Rattle.texts.specs.Proofs.Tools.{never, In, false-any, among-in, Distinct}
+use Rattle.texts.specs.Coded.{twos, packed, codes, cellsFrom, second-from, new-from, ruleNumber, template, unpaired}
+use Rattle.texts.specs.TableTest.{argsAll, allCodes, sameSide, tally}
+use Rattle.texts.specs.Proofs.Tools.{never, false-any, among-in, Distinct}
 use Rattle.texts.specs.Proofs.Places.{at-in, not-at, not-in, index-all, index-less, distinct-left, distinct-right, distinct-apart, keep-in, in-keep, different-in, different-distinct}
 use Rattle.texts.specs.Proofs.Linear.{words, wordsIn, words-all, one, tally-cons, tally-append, cellTally, code-count, cell-count}
 use Rattle.texts.specs.Proofs.NetMeans.{nodes-append}
-use Rattle.texts.specs.Good.{SoundRule}
+use Rattle.texts.specs.Conditions.{SoundRule}
 
 pub unpaired-twos : (cs : List Side) → even cs ≡ true → unpaired (twos cs) ≡ cs
 unfolding unpaired twos even

@@ -3,13 +3,13 @@ use Prim.Native.Nat.{ℕ}
 use mathlib.Core.Path.{_≡_, refl, sym, ap, _∙_}
 use mathlib.Core.Logic.{_⊎_, inl, inr, ⊎-elim}
 use mathlib.Core.Bool.{Bool, true, false, cond, not, _&&_, _||_, or-assoc, or-true}
-use mathlib.Core.List.{List, [], _∷_, _++_, List·Memᴰ, List·Memᴰ·head, List·Memᴰ·tail, List·Memᴰ·cases-cons, List·Memᴰ·not-nil}
+use mathlib.Core.List.{List, [], _∷_, _++_, List·Memᴰ·head, List·Memᴰ·tail, List·Memᴰ·cases-cons, List·Memᴰ·not-nil}
 use mathlib.Core.Option.{Option, none, some}
 use native.Mathlib.Omega.{arith}
 use lib.ListN.{length}
 use lib.Dec.{eqb}
 use borrow.Author.Tests.{eqb-true, eq-eqb}
-use Rattle.texts.specs.Bytes.{Word, any, all, keep, same, among}
+use Rattle.texts.specs.Bytes.{Word, any, all, keep, In, same, among}
 use Rattle.texts.specs.Answers.{_>>=_}
 
 pub never : {A : Type 0} → false ≡ true → A
@@ -105,9 +105,6 @@ same-eq (x ∷ xs) (y ∷ ys) h =
 
 -- Places in lists.
 module _ {A : Type 0} where
-  abbrev pub In : A → List A → Type 0
-  In x xs = List·Memᴰ x xs
-
   pub any-false : (f : A → Bool) (x : A) (xs : List A) → any f xs ≡ false → In x xs → f x ≡ false
   unfolding any
   any-false f x [] h m = absurd (List·Memᴰ·not-nil m)

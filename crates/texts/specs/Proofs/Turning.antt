@@ -9,17 +9,17 @@ use lib.ListN.{length}
 use lib.Dec.{eqb}
 use borrow.Author.Tests.{lt-ltb, le-ltb}
 use Rattle.parts.specs.Limits.{arity-max}
-use Rattle.texts.specs.Bytes.{Word, any, all, same, among, indexOf}
+use Rattle.texts.specs.Bytes.{Word, any, all, same, among, indexOf, In}
 use Rattle.texts.specs.Terms.{Term, term}
 use Rattle.texts.specs.Books.{Agent, Rule, Equation, declared, sides, headOf, argsOf, leftArgs}
 use Rattle.texts.specs.RuleText.{wordAt, mirror, mirrored, wireOf, sameWire, within}
 use Rattle.parts.specs.Sides.{name, Pair, _:=_}
 use Rattle.texts.specs.Coded.{packed, codeAt, codes, twos, second-from, ruleNumber}
-use Rattle.texts.specs.Proofs.Tools.{never, In, same-refl, same-eq, among-in, in-among, Distinct}
+use Rattle.texts.specs.Proofs.Tools.{never, same-refl, same-eq, among-in, in-among, Distinct}
 use Rattle.texts.specs.Proofs.Places.{at-in, index-less, word-index, index-word, distinct-left, distinct-right, distinct-apart}
 use Rattle.texts.specs.Proofs.Templates.{Few, left-code, right-code}
 use Rattle.texts.specs.TableTest.{sameSide, turned, turnedSide, turnsTo}
-use Rattle.texts.specs.Good.{SoundRule}
+use Rattle.texts.specs.Conditions.{SoundRule}
 
 module _ {A B : Type 0} where
   pub all-map : (f : B → Bool) (g : A → B) (xs : List A) → all f (map g xs) ≡ all (λ x. f (g x)) xs

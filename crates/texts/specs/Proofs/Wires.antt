@@ -19,10 +19,10 @@ use Rattle.parts.specs.Sides.{Side, name, Pair, _:=_}
 use Rattle.model.specs.Table.{Cell}
 use Rattle.model.specs.Reading.{Reads, none, by-name, by-cell, ReadsAll, no-pairs, pairs}
 use Rattle.model.specs.State.{from}
-use Rattle.texts.specs.Bytes.{any, all}
+use Rattle.texts.specs.Bytes.{any, all, In}
 use Rattle.texts.specs.Coded.{second-from}
 use Rattle.texts.specs.TableTest.{sameSide, turned, turnedSide, turnsTo}
-use Rattle.texts.specs.Proofs.Tools.{never, both, In, all-true, true-all, any-true, any-append, in-split, not-empty}
+use Rattle.texts.specs.Proofs.Tools.{never, both, all-true, true-all, any-true, any-append, in-split, not-empty}
 use Rattle.texts.specs.Proofs.Turning.{all-map, any-map, any-ext, all-ext}
 
 -- A wire: two names; as an equation of sides, as one of the calculus, and with its names changed.

@@ -25,14 +25,17 @@ low-requires c κs = search needs
 low-requires-2 : tie.Need-low-requires-2
 low-requires-2 c κs = search needs
 
-low-of-requires : tie.Need-low-of-requires
-low-of-requires c κs = search needs
+cast-low : tie.Need-cast-low
+cast-low c = search needs
 
 low-requires-3 : tie.Need-low-requires-3
 low-requires-3 c κs = search needs
 
 low-requires-4 : tie.Need-low-requires-4
 low-requires-4 c κs = search needs
+
+low-requires-5 : tie.Need-low-requires-5
+low-requires-5 c κs = search needs
 
 sides-of-requires : tie.Need-sides-of-requires
 sides-of-requires c κs = search needs
@@ -60,9 +63,10 @@ rule-of-spec =
     sub-fresh
     low-requires
     low-requires-2
-    low-of-requires
+    cast-low
     low-requires-3
     low-requires-4
+    low-requires-5
     sides-of-requires
     cast-nodes-of
     mul-nodes-of

@@ -1,5 +1,5 @@
 -- `evaluation::ending::print_end` meets its contract.
-use Rattle.evaluation.proofs.Ends.{part-fits, end-read, end-long, end-unsound, end-waits}
+use Rattle.evaluation.proofs.Ends.{lines-fit, end-read, end-long, end-unsound, end-waits}
 use borrow.Author.Needs.{needs}
 use Rattle.evaluation.proofs.ending.print_end.Statement.{statement}
 use Rattle.evaluation.proofs.ending.print_end.Tie as tie
@@ -16,26 +16,11 @@ read-answer-requires c κs = search needs
 enum-known-length : tie.Need-enum-known-length
 enum-known-length c = search needs
 
-cast-put-ended : tie.Need-cast-put-ended
-cast-put-ended c = search needs
+slice-aggregate-print-read : tie.Need-slice-aggregate-print-read
+slice-aggregate-print-read c = search needs
 
-cast-put-ended-2 : tie.Need-cast-put-ended-2
-cast-put-ended-2 c = search needs
-
-cast-put-ended-3 : tie.Need-cast-put-ended-3
-cast-put-ended-3 c = search needs
-
-put-ended-requires : tie.Need-put-ended-requires
-put-ended-requires c κs = search needs
-
-slice-aggregate-part : tie.Need-slice-aggregate-part
-slice-aggregate-part c = search needs
-
-part-requires : tie.Need-part-requires
-part-requires c κs = search needs
-
-put-bytes-requires : tie.Need-put-bytes-requires
-put-bytes-requires c κs = search (needs, part-fits)
+print-read-requires : tie.Need-print-read-requires
+print-read-requires c κs = search (needs, lines-fit)
 
 enum-told : tie.Need-enum-told
 enum-told c = search needs
@@ -78,13 +63,8 @@ print-end-spec =
     slice-aggregate-read-answer
     read-answer-requires
     enum-known-length
-    cast-put-ended
-    cast-put-ended-2
-    cast-put-ended-3
-    put-ended-requires
-    slice-aggregate-part
-    part-requires
-    put-bytes-requires
+    slice-aggregate-print-read
+    print-read-requires
     enum-told
     slice-aggregate-put-refusal
     put-refusal-requires

@@ -23,10 +23,10 @@ returns : tie.Need-returns
 returns c = search (needs, interacted)
 
 returns-2 : tie.Need-returns-2
-returns-2 c = search (needs, no-room)
+returns-2 c = search (needs, no-room, spent)
 
 returns-3 : tie.Need-returns-3
-returns-3 c = search (needs, spent)
+returns-3 c = search (needs, no-room, spent)
 
 pub interact-spec : {M : Type 1} → statement M
 interact-spec =

@@ -1,12 +1,10 @@
 -- `sound::passes::all_blanks` meets its contract.
 use Prim.Native.Nat.{_-_}
-use Rattle.model.specs.Table.{both}
 use Rattle.parts.specs.Limits.{cells-max}
 use Rattle.sound.proofs.Every.{Passing, pass-start, pass-more, pass-end}
 use Rattle.sound.specs.Clauses.{blanks}
 use Rattle.sound.specs.Lent.{under}
 use Rattle.state.specs.Layout.{view}
-use Rattle.state.specs.Moves.{taken}
 use borrow.Author.Needs.{needs}
 use Rattle.sound.proofs.passes.all_blanks.Statement.{statement}
 use Rattle.sound.proofs.passes.all_blanks.Tie as tie

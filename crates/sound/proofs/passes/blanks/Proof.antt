@@ -1,13 +1,11 @@
 -- `sound::passes::blanks` meets its contract.
 use Prim.Native.Nat.{_-_}
-use Rattle.model.specs.Table.{both}
 use Rattle.parts.specs.Limits.{arity-max}
 use Rattle.sound.proofs.Every.{Passing, pass-start, pass-more}
 use Rattle.sound.proofs.Ways.{blanks-end}
 use Rattle.sound.specs.Clauses.{blanked}
 use Rattle.sound.specs.Lent.{under}
 use Rattle.state.specs.Layout.{view}
-use Rattle.state.specs.Moves.{taken}
 use borrow.Author.Needs.{needs}
 use Rattle.sound.proofs.passes.blanks.Statement.{statement}
 use Rattle.sound.proofs.passes.blanks.Tie as tie

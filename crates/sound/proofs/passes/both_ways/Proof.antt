@@ -1,12 +1,10 @@
 -- `sound::passes::both_ways` meets its contract.
 use Prim.Native.Nat.{_-_}
-use Rattle.model.specs.Table.{both}
 use Rattle.parts.specs.Limits.{names-max}
 use Rattle.sound.proofs.Every.{Passing, pass-start, pass-more}
 use Rattle.sound.proofs.Ways.{answers-end}
 use Rattle.sound.specs.Clauses.{answers}
 use Rattle.state.specs.Layout.{view}
-use Rattle.state.specs.Moves.{taken}
 use borrow.Author.Needs.{needs}
 use Rattle.sound.proofs.passes.both_ways.Statement.{statement}
 use Rattle.sound.proofs.passes.both_ways.Tie as tie

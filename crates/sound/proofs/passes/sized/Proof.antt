@@ -10,26 +10,23 @@ len-of-requires c κs = search needs
 count-requires : tie.Need-count-requires
 count-requires c κs = search needs
 
-at-most-requires : tie.Need-at-most-requires
-at-most-requires c κs = search needs
+cast-waits : tie.Need-cast-waits
+cast-waits c = search needs
 
 count-requires-2 : tie.Need-count-requires-2
 count-requires-2 c κs = search needs
 
-at-most-requires-2 : tie.Need-at-most-requires-2
-at-most-requires-2 c κs = search needs
+cast-stucks : tie.Need-cast-stucks
+cast-stucks c = search needs
 
 count-requires-3 : tie.Need-count-requires-3
 count-requires-3 c κs = search needs
 
-at-most-requires-3 : tie.Need-at-most-requires-3
-at-most-requires-3 c κs = search needs
+cast-faces : tie.Need-cast-faces
+cast-faces c = search needs
 
 loops-requires : tie.Need-loops-requires
 loops-requires c κs = search needs
-
-few-loops-requires : tie.Need-few-loops-requires
-few-loops-requires c κs = search needs
 
 both-requires : tie.Need-both-requires
 both-requires c κs = search needs
@@ -49,13 +46,12 @@ sized-spec =
     (tie.spec
     len-of-requires
     count-requires
-    at-most-requires
+    cast-waits
     count-requires-2
-    at-most-requires-2
+    cast-stucks
     count-requires-3
-    at-most-requires-3
+    cast-faces
     loops-requires
-    few-loops-requires
     both-requires
     both-requires-2
     both-requires-3

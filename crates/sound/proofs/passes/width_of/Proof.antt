@@ -1,6 +1,5 @@
 -- `sound::passes::width_of` meets its contract.
 use Rattle.sound.proofs.Ways.{no-width, width-way}
-use Rattle.table.specs.Layout.{word}
 use borrow.Author.Needs.{needs}
 use Rattle.sound.proofs.passes.width_of.Statement.{statement}
 use Rattle.sound.proofs.passes.width_of.Tie as tie

@@ -1,10 +1,8 @@
 -- `sound::passes::zero_past` meets its contract.
 use Prim.Native.Nat.{_-_}
-use Rattle.model.specs.Table.{both}
 use Rattle.sound.proofs.Every.{Passing, pass-start, pass-more, pass-end}
 use Rattle.sound.specs.Clauses.{zero-past}
 use Rattle.state.specs.Layout.{view}
-use Rattle.state.specs.Moves.{taken}
 use Rattle.state.specs.Places.{words}
 use borrow.Author.Needs.{needs}
 use Rattle.sound.proofs.passes.zero_past.Statement.{statement}

@@ -1,0 +1,4 @@
+pub mod Cells
+pub mod Reach
+pub mod Roots
+pub mod Steps

@@ -1,0 +1,48 @@
+-- The words of the statements, and the page on which each is defined.
+pub use Prim.Native.{Nat.ℕ, Nat.zero, Nat.suc, Nat._+_, Nat._*_, Nat._-_, Nat._≤_, Nat._<_, String.String}
+pub use mathlib.Core.{Path._≡_, Logic._↔_, Logic._⊎_, Bool.Bool, Bool.true, Bool.false, Bool.not, Bool._&&_, Option.Option, List.List, List.[], List._∷_, List._++_}
+pub use lib.{ListN.length, ListN.getD, ListN.drop, Seq.sets}
+pub use Rattle.parts.specs.Limits.{budget-max, text-max, rule-equations-max}
+pub use Rattle.calculus.specs.Nets.{_≈_}
+pub use Rattle.calculus.specs.Calculus.{Label, Communication, Interaction, Step}
+pub use Rattle.calculus.specs.Terms.{Conf}
+pub use Rattle.calculus.specs.Descent.{Steps, Normal}
+pub use Rattle.texts.specs.Bytes.{lines, Line, fault2, fields, Word, In}
+pub use Rattle.texts.specs.Books.{Book, Agent, wordNet, noBook, wordRules, Net, printBook, printNet}
+pub use Rattle.texts.specs.Answers.{accepted, fine, absent, holds, _>>=_, refused, readLines}
+pub use Rattle.texts.specs.RuleText.{rulesOfLines, Counts, headerOf, headerLine, termsOf, ruleLine, meant, fault3, fault4, fault5, fault6, fault7, fault8, fault9, fault10, readRules}
+pub use Rattle.texts.specs.NetText.{netFault5, netFault7, faceAndEqs, netOfLines, faceFields, eqFields, faceNet, moreNet, faceLine, eqLine, readNet}
+pub use Rattle.texts.specs.Refused.{RulesRefused, NetRefused}
+pub use Rattle.texts.specs.Tests.{Counted, headerTests, ruleTests, faceTests, eqTests, Reads, Loose, NetCounted}
+pub use Rattle.texts.specs.Coded.{tableOf, template, machine, load}
+pub use Rattle.texts.specs.Meaning.{meantRule, meantNet}
+pub use Rattle.texts.specs.Good.{GoodBook, GoodNet}
+pub use Rattle.texts.specs.Terms.{Term}
+pub use Rattle.model.specs.Step.{picked, moved, place, taken-out, rule-at}
+pub use Rattle.model.specs.Rows.{NoRoom, Row}
+pub use Rattle.model.specs.State.{St, used, empty}
+pub use Rattle.model.specs.Run.{ran}
+pub use Rattle.model.specs.Load.{loaded}
+pub use Rattle.model.specs.Sound.{Means, Sound, meaning, book}
+pub use Rattle.model.specs.Table.{Entry, Table, Found, entry}
+pub use Rattle.model.specs.Walk.{one-use, Stop, ended, paused, noroom, one-made, over, right}
+pub use Rattle.table.specs.Layout.{tableBytes, agentsIn, bytesOf}
+pub use Rattle.table.specs.Given.{Given}
+pub use Rattle.table.specs.Put.{no-table}
+pub use Rattle.state.specs.Layout.{view, state-size}
+pub use Rattle.state.specs.Whole.{Words}
+pub use Rattle.sound.specs.Lent.{under}
+pub use Rattle.lent.specs.Both.{BothSound, sound-table, sound-state}
+pub use Rattle.answers.specs.Answer.{agents, tied-agents, net-agents, answer}
+pub use Rattle.answers.specs.Collected.{Collected, Substituted}
+pub use Rattle.answers.specs.Knots.{Knotted}
+pub use Rattle.answers.specs.Text.{answer-text}
+pub use Rattle.rules.specs.declared.RulesAnswer.{RulesAnswer}
+pub use Rattle.rules.specs.Answer.{left, rulesRead}
+pub use Rattle.nets.specs.Answer.{told, netCall}
+pub use Rattle.nets.specs.declared.NetAnswer.{NetAnswer}
+pub use Rattle.machine.specs.declared.calls.StepAnswer.{StepAnswer}
+pub use Rattle.machine.specs.declared.calls.RunAnswer.{RunAnswer}
+pub use Rattle.machine.specs.Calls.{stopped, run-told, out, step-told, step-called, run-called}
+pub use Rattle.answer.specs.Called.{called, given, end-told}
+pub use Rattle.evaluation.specs.Evaluated.{evaluated}
