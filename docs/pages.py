@@ -3,7 +3,7 @@
 
 A definition is reached if a statement names it, or a definition that is reached does. Proofs are not followed, nor what stands in
 KNOWN: of that the theorem beside it says all that the statements need. Names are looked up in the `use` lines of a page; a bound
-variable that has the name of a definition counts as a use, so the lists may be too long, not too short.
+variable that has the name of a definition counts as a use, so the lists are rather too long than too short.
 """
 import os
 import re
@@ -33,7 +33,7 @@ KNOWN = {
     "table.agentsIn": "view-bytes (crates/table/specs/Laws/Whole.antt)",
     "state.view": "whole (crates/state/specs/Whole.antt)",
     "lent.decided": "it decides BothSound, and its type says so",
-    "nets.netCall": "rule by rule in Demand1Nets, net-spelt (crates/review/specs)",
+    "nets.netCall": "number by number in Demand1Nets, net-spelt (crates/review/specs)",
     "machine.step-called": "step-12 .. step-16, step-is-a-row (crates/review/specs)",
     "machine.run-called": "run-16, run-17, run-is-steps (crates/review/specs)",
     "answer.called": "answer-14 .. answer-16, net-printed (crates/review/specs)",
