@@ -5,10 +5,13 @@ pub mod Demand1Nets
 pub mod Demand1Rules
 pub mod Demand2
 pub mod Demand3
+pub mod Exact
 pub mod Examples
 pub mod Faults
+pub mod Loads
 pub mod Picks
 pub mod Program
 pub mod Promises
+pub mod Rulebook
 pub mod Words
 pub mod Proofs
