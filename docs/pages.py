@@ -1,44 +1,39 @@
 #!/usr/bin/env python3
 """Lists the definitions that the statements of crates/review rest on, page by page; with --text it prints them.
 
-A definition is reached if a statement names it, or a definition that is reached does. Proofs are not followed, nor what stands in
-KNOWN: of that the theorem beside it says all that the statements need. Names are looked up in the `use` lines of a page; a bound
-variable that has the name of a definition counts as a use, so the lists are rather too long than too short.
+A statement is a public theorem on a page of crates/review/specs. A definition is reached if a statement names it, or a definition that
+is reached does; it is found by its page and its name, through the `use` lines. Proofs are not followed. Nor is a definition in HIDDEN:
+the theorems beside it determine it, and are statements themselves wherever it is reached. The script refuses a hidden name unless
+
+- each theorem named beside it is there and public, and one of them has the name on one side of an `↔`, or on a side of the equation in
+  which it ends;
+- nothing that those theorems rest on is defined by the name, at whatever remove, the theorems of other hidden names included.
+
+A definition that is shut can't be read, so a statement may name none; but for the proofs in PROOFS.
+
+A bound variable that has the name of a definition counts as a use, so the lists are rather too long than too short. A field after a dot is
+not followed: its record is reached by the type of what stands before the dot.
 """
 import os
 import re
 import sys
 
 ROOT = os.path.join(os.path.dirname(os.path.abspath(__file__)), "..", "crates")
+# Every page of crates/review/specs that has statements, by the question that it answers.
 QUESTIONS = {
-    "1 (header, refusals)": ["Demand1", "Demand1Rules", "Demand1Nets"],
-    "2 (texts, step, answer)": ["Demand2"],
-    "3 (order)": ["Demand3"],
+    "1 (header, refusals)": ["Demand1", "Demand1Rules", "Demand1Nets", "Demand1Texts", "Answered"],
+    "2 (texts, step, answer)": ["Demand2", "Program", "Exact"],
+    "3 (order)": ["Demand3", "Bench"],
 }
-KNOWN = {
-    "texts.termOf": "field-means (crates/texts/specs/Main.antt)",
-    "texts.numberOf": "number-means (crates/texts/specs/Main.antt)",
-    "texts.testTable": "table-test (crates/texts/specs/Main.antt)",
-    "texts.tableOf": "rule-means (crates/review/specs/Demand2.antt)",
-    "texts.template": "rule-means (crates/review/specs/Demand2.antt)",
-    "texts.load": "load-stands (crates/review/specs/Demand2.antt)",
-    "model.loaded": "load-stands (crates/review/specs/Demand2.antt)",
-    "model.both": "it decides a pair of equations, and its type says so",
-    "model.stepped": "step-table, every-step (crates/model/specs/StepTable.antt)",
-    "model.ran": "run-is-right (crates/model/specs/Stopped.antt)",
-    "answers.state-answer": "state-printed (crates/answers/specs/Main.antt)",
-    "answers.answer-written": "bytes-printed (crates/answers/specs/Main.antt)",
-    "table.bytesOf": "view-bytes (crates/table/specs/Laws/Whole.antt)",
-    "table.view": "view-bytes (crates/table/specs/Laws/Whole.antt)",
-    "table.agentsIn": "view-bytes (crates/table/specs/Laws/Whole.antt)",
-    "state.view": "whole (crates/state/specs/Whole.antt)",
-    "lent.decided": "it decides BothSound, and its type says so",
-    "nets.netCall": "number by number in Demand1Nets, net-spelt (crates/review/specs)",
-    "machine.step-called": "step-12 .. step-16, step-is-a-row (crates/review/specs)",
-    "machine.run-called": "run-16, run-17, run-is-steps (crates/review/specs)",
-    "answer.called": "answer-14 .. answer-16, net-printed (crates/review/specs)",
+# A definition that a reader need not look at, and the theorems that determine it.
+HIDDEN = {
+    "texts/Proofs/Reader.termOf": ["texts/Main.field-means"],
+    "texts/Bytes.numberOf": ["texts/Main.number-means"],
 }
+# A proof off which statements read something, and the theorem that says that another proof gives the same.
+PROOFS = {"lent/Both.sound-state": ["model/Kept.one-meaning"]}
 WORD = re.compile(r"[^\s(){}\[\];,|]+")
+WORDS_BEFORE = re.compile(r"\s*(?:(?:abbrev|unfoldable|pub|data|record|mutual) )*([^(){}=→]+?)(?: [({].*)? : ")
 
 
 class Definition:
@@ -49,14 +44,14 @@ class Definition:
         self.code = [line for line in block if not line.strip().startswith("--")]
         first = self.code[0].strip()
         self.is_public = " pub " in " " + first + " "
-        self.is_theorem = not re.match(r"(abbrev|unfoldable|infix|module)|(pub )?(data|record) ", first)
+        self.is_theorem = not re.match(r"(abbrev|unfoldable|infix|module|mutual)|(pub )?(data|record) ", first)
+        self.name = next(iter(self.brought()), first)
         self.names = set(self.brought())
-        self.is_known = any(f"{page.crate}.{name}" in KNOWN for name in self.names)
 
     def brought(self):
         """The names before a colon: of the definition, its constructors or its fields."""
         for line in self.code[:1] if self.is_theorem else self.code:
-            head = re.match(r"\s*(?:(?:abbrev|unfoldable|pub|data|record|mutual) )*([^(){}=→]+?)(?: [({].*)? : ", line + " ")
+            head = WORDS_BEFORE.match(line + " ")
             if head:
                 yield from head.group(1).split()
 
@@ -68,22 +63,26 @@ class Definition:
             end += 1
         return self.code[:end]
 
+    def lines(self):
+        return self.context + (self.statement() if self.is_theorem else self.code)
+
     def uses(self):
-        for line in self.context + (self.statement() if self.is_theorem else self.code):
+        """The definitions that its words may mean."""
+        for line in self.lines():
             for word in WORD.findall(line):
-                yield word
-                yield from word.split(".")
+                if not word.startswith("."):
+                    yield from self.page.find(word)
 
 
 class Page:
-    def __init__(self, crate, path):
-        self.crate, self.path = crate, path
+    def __init__(self, pages, crate, inner, path):
+        self.pages, self.key, self.path = pages, f"{crate}/{inner}", path
         self.imports, self.aliases, self.definitions = {}, {}, []
         block, modules = [], []
         for line in open(path, encoding="utf-8").read().split("\n") + [""]:
             used = re.match(r"(?:pub )?use (\S+?)(?:\.\{(.*)\}| as (\S+))$", line)
             if used:
-                self.take(used)
+                self.take(*used.groups())
             elif line.strip() and not line.startswith(("pub mod", "mod ")):
                 block.append(line)
             elif block:
@@ -92,21 +91,18 @@ class Page:
         self.names = {}
         for d in self.definitions:
             for name in d.names:
-                self.names.setdefault(name, d)
-                for part in name.split("_"):
-                    if part and "_" in name:
-                        self.names.setdefault(part, d)
+                for part in {name, *(name.split("_") if "_" in name else ())} - {""}:
+                    self.names.setdefault(part, []).append(d)
 
-    def take(self, used):
-        module, names, alias = used.groups()
+    def take(self, module, names, alias):
         if alias:
             self.aliases[alias] = module
         for name in (names or "").split(","):
             old, _, new = name.strip().partition(" as ")
-            self.imports[new or old] = (module, old)
-            for part in old.split("_"):
-                if part and "_" in old and not new:
-                    self.imports[part] = (module, old)
+            inner, _, last = old.rpartition(".")
+            target = f"{module}.{inner}" if inner else module
+            for part in {new or last, *(last.split("_") if "_" in last and not new else ())} - {""}:
+                self.imports.setdefault(part, []).append((target, last))
 
     def put(self, block, modules):
         """Adds a block as a definition, or to the one before it where it goes on. Modules are open from an indent on."""
@@ -117,7 +113,7 @@ class Page:
         modules[:] = [m for m in modules if m[0] < indent]
         if code[0].lstrip().startswith("module _"):
             end = next(i for i, line in enumerate(block) if line.endswith(" where")) + 1
-            modules.append((indent, block[:end]))
+            modules.append((indent, [line for line in block[:end] if not line.strip().startswith("--")]))
             if block[end:]:
                 self.put(block[end:], modules)
         elif indent == (modules[-1][0] + 2 if modules else 0):
@@ -126,51 +122,118 @@ class Page:
             last = self.definitions.pop()
             self.definitions.append(Definition(self, last.text + block, last.context))
 
+    def find(self, word):
+        """Every definition that a word of this page may mean: its own, an imported one, one of a page with a short name."""
+        yield from self.names.get(word, [])
+        places = list(self.imports.get(word, []))
+        if "." in word:
+            alias, _, name = word.partition(".")
+            if alias in self.aliases:
+                places.append((self.aliases[alias], name))
+            for module, last in self.imports.get(alias, []):
+                places.append((module, last))
+        for module, name in places:
+            target = self.pages.get(page_key(module))
+            if target:
+                yield from target.find(name)
+
+
+def page_key(module):
+    """`Rattle.texts.specs.Proofs.Reader` and `Rattle.texts.specs.Proofs.Reader` are the page texts/Proofs/Reader."""
+    found = re.match(r"Rattle·([^.·]+)(?:·specs)?\.specs\.(.+)$", module)
+    return found and f"{found.group(1)}/{found.group(2).replace('.', '/')}"
+
 
 def read_pages():
     pages = {}
     for crate in sorted(os.listdir(ROOT)):
-        for folder, _, files in os.walk(os.path.join(ROOT, crate, "specs")):
+        specs = os.path.join(ROOT, crate, "specs")
+        for folder, _, files in os.walk(specs):
             for file in files:
                 if file.endswith(".antt"):
                     path = os.path.join(folder, file)
-                    inner = os.path.relpath(path, os.path.join(ROOT, crate, "specs"))[:-5].replace("/", ".")
-                    pages[f"Rattle.{crate}.specs.{inner}"] = Page(crate, path)
+                    page = Page(pages, crate, os.path.relpath(path, specs)[:-5], path)
+                    pages[page.key] = page
     return pages
 
 
-def find(pages, page, word):
-    """Every definition that a word of a page may mean: a field and an import can have one name."""
-    if word in page.names:
-        yield page.names[word]
-    module, name = page.imports.get(word, (None, None))
-    if not module and "." in word:
-        alias, _, name = word.partition(".")
-        module = page.aliases.get(alias)
-    target = pages.get((module or "").replace("·specs.specs.", ".specs."))
-    if target:
-        yield from find(pages, target, name)
+def named(pages, key):
+    """The definitions of that page and name; a field is no definition of its own."""
+    page, _, name = key.rpartition(".")
+    found = [d for d in pages[page].names.get(name, []) if d.name == name] if page in pages else []
+    if not found:
+        sys.exit(f"pages.py: there is no {key}")
+    return found
 
 
-def reached(pages, statements):
-    seen, todo = set(), list(statements)
+def reached(todo, hidden):
+    """What the statements rest on, the theorems of hidden names included."""
+    seen, todo = set(), list(todo)
     while todo:
         d = todo.pop()
-        if d in seen:
-            continue
-        seen.add(d)
-        if not d.is_known:
-            todo += [e for word in d.uses() for e in find(pages, d.page, word)]
-    return {d for d in seen if not d.is_theorem and not d.is_known}
+        if d not in seen:
+            seen.add(d)
+            todo += hidden[d] if d in hidden else d.uses()
+    return seen
+
+
+def determines(theorem, name):
+    """The name stands on one side of an equivalence, or in the equation in which the theorem ends."""
+    statement = " ".join(line.strip() for line in theorem.statement())
+    word = rf"(?<![^\s(){{}}])({re.escape(name)})(?![^\s(){{}}])"
+    sides = re.split(r" ↔ ", statement)
+    if len(sides) > 1:
+        return sum(bool(re.search(word, side)) for side in sides) == 1
+    end = re.split(r" → ", statement)[-1]
+    return "≡" in end and bool(re.search(word, end))
+
+
+def hide(pages):
+    """The hidden definitions, each with its theorems, once they have passed."""
+    hidden = {}
+    for key, theorems in HIDDEN.items():
+        proofs = [t for key in theorems for t in named(pages, key)]
+        name = key.rpartition(".")[2]
+        if not all(t.is_theorem and t.is_public for t in proofs):
+            sys.exit(f"pages.py: {key} is hidden by what is no public theorem")
+        if not any(determines(t, name) for t in proofs):
+            sys.exit(f"pages.py: {key} is hidden, and {', '.join(theorems)} does not determine it")
+        for d in named(pages, key):
+            hidden[d] = proofs
+    for d, proofs in hidden.items():
+        others = {e: p for e, p in hidden.items() if e is not d}
+        rests = reached([e for t in proofs for e in t.uses() if e is not d], others) - {d}
+        for e in rests:
+            if e not in others and e not in proofs and any(u is d for u in e.uses()):
+                sys.exit(f"pages.py: {d.page.key}.{d.name} is hidden by what rests on it: {e.page.key}.{e.name}")
+    return hidden
+
+
+def shut(hidden, statements):
+    """Refuses a statement that names a definition which is shut."""
+    allowed = set(statements) | set(hidden) | {t for proofs in hidden.values() for t in proofs}
+    for d in reached(statements, hidden):
+        if d.is_theorem and d not in allowed:
+            sys.exit(f"pages.py: a statement names {d.page.key}.{d.name}, which is shut")
 
 
 def main():
     pages = read_pages()
+    hidden = hide(pages)
+    for key, theorems in PROOFS.items():
+        for d in named(pages, key):
+            hidden[d] = [t for k in theorems for t in named(pages, k)] + list(d.uses())
+    asked = {n for names in QUESTIONS.values() for n in names}
     everything = set()
+    for key, page in pages.items():
+        if key.startswith("review/") and key.count("/") == 1 and key[7:] not in asked:
+            if any(d.is_theorem and d.is_public for d in page.definitions):
+                sys.exit(f"pages.py: the statements of {key} answer no question")
     for question, names in list(QUESTIONS.items()) + [("all", None)]:
         if names:
-            statements = [d for n in names for d in pages[f"Rattle.review.specs.{n}"].definitions if d.is_theorem and d.is_public]
-            found = reached(pages, statements)
+            statements = [d for n in names for d in pages[f"review/{n}"].definitions if d.is_theorem and d.is_public]
+            shut(hidden, statements)
+            found = {d for d in reached(statements, hidden) if not d.is_theorem and d not in hidden}
             everything |= found
         else:
             found = everything

@@ -3,6 +3,7 @@ pub mod Bench
 pub mod Demand1
 pub mod Demand1Nets
 pub mod Demand1Rules
+pub mod Demand1Texts
 pub mod Demand2
 pub mod Demand3
 pub mod Exact

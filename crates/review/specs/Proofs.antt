@@ -16,6 +16,7 @@ pub mod Shown
 pub mod Sources
 pub mod Spelt
 pub mod Steps
+pub mod Texts
 pub mod Told
 pub mod Walking
 pub mod Written
