@@ -7,7 +7,7 @@ pub use Rattle.calculus.specs.Nets.{_≈_}
 pub use Rattle.calculus.specs.Calculus.{Label, Communication, Interaction, Step}
 pub use Rattle.calculus.specs.Terms.{Conf}
 pub use Rattle.calculus.specs.Descent.{Steps, Normal}
-pub use Rattle.texts.specs.Bytes.{lines, Line, fault2, fields, Word, In}
+pub use Rattle.texts.specs.Bytes.{bytes, lines, Line, fault2, fields, Word, In}
 pub use Rattle.texts.specs.Books.{Book, Agent, wordNet, noBook, wordRules, Net, printBook, printNet}
 pub use Rattle.texts.specs.Answers.{accepted, fine, absent, holds, _>>=_, refused, readLines}
 pub use Rattle.texts.specs.RuleText.{rulesOfLines, Counts, headerOf, headerLine, termsOf, ruleLine, meant, fault3, fault4, fault5, fault6, fault7, fault8, fault9, fault10, readRules}

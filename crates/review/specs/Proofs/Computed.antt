@@ -8,7 +8,7 @@ use borrow.Author.Tests.{ltb-true}
 use Rattle.calculus.specs.Terms.{if-eq}
 use Prim.Native.Nat.{ℕ}
 use Rattle.parts.specs.Sides.{side}
-use Rattle.texts.specs.Bytes.{any, all, keep, same, among, times, different, indexOf, letter, digit, wordByte, allowed, onLine, lines, fault2, onField, fields, isNumber, value, numberOf, decimal, textOf, tabbed, lineOf}
+use Rattle.texts.specs.Bytes.{bytes, any, all, keep, same, among, times, different, indexOf, letter, digit, wordByte, allowed, onLine, lines, fault2, onField, fields, isNumber, value, numberOf, decimal, textOf, tabbed, lineOf}
 use Rattle.texts.specs.Terms.{identifier, symbol, count, nodes, wordsOf, nodesAt, spell, brackets, closing}
 use Rattle.texts.specs.Books.{declared, takes, cellsOf, namesOf, sides, pairs, lefts, rights, headOf, heads, argsOf, leftArgs, newNames, netTerms, add, writeFace, writeEquation}
 use Rattle.texts.specs.Answers.{need, _>>=_, absent, holds, refuse, after, afterLine, readLines}
@@ -24,7 +24,7 @@ use Rattle.answers.specs.Text.{spelling, numeral, answer-text}
 use Rattle.report.specs.Numbers.{spelt, digits}
 use Rattle.report.specs.Firsts.{ended, stopped, refusal}
 use Rattle.evaluation.specs.Evaluated.{ending, running, net-printed, rules-printed, evaluated}
-use Rattle.review.specs.Examples.{bytes, text, rules, Comes, Bench, ackermann-rules, ackermann-net}
+use Rattle.review.specs.Examples.{text, rules, Comes, Bench, ackermann-rules, ackermann-net}
 use Rattle.review.specs.Picks.{Premise}
 use Rattle.review.specs.Proofs.Shown.{of-net, of-texts, steps-from, came-of, came, run-shows}
 
@@ -35,7 +35,7 @@ comes {net} {i} {l} {s} {c} p q o =
     record { printed = p; premise = k .premise; loaded = k .loaded; by-head = k .by-head (ltb-true s 100 o); left = k .left }
 
 both : Bench × (came 0 (text ackermann-rules) (bytes ackermann-net) ≡ came-of 133 8 0 10 0)
-unfolding bytes text of-net of-texts steps-from came any all keep same among times different indexOf letter digit wordByte allowed onLine lines
+unfolding text of-net of-texts steps-from came any all keep same among times different indexOf letter digit wordByte allowed onLine lines
     fault2 onField fields isNumber value numberOf identifier symbol count nodes wordsOf nodesAt declared takes
     cellsOf namesOf sides pairs lefts rights headOf heads argsOf leftArgs newNames netTerms add need _>>=_
     absent holds refuse after afterLine readLines headerOf agentFields even ruleFields ruleless shapeOf shape
