@@ -32,8 +32,8 @@ fn both_counts(first: &[u8], second: &[u8]) -> Header
         Number::Value(a) => match decimal(second) {
             Number::Nothing => Header::Wrong,
             Number::Value(b) => Header::Counts {
-                first: a,
-                second: b,
+                upper: a,
+                lower: b,
             },
         },
     }

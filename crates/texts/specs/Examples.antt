@@ -11,7 +11,7 @@ use Rattle.texts.specs.Terms.{identifier, symbol, count, nodes, wordsOf,
 use Rattle.texts.specs.Books.{Agent, Book, Net, declared, takes, cellsOf, namesOf, sides, pairs, lefts, rights, headOf, heads, argsOf, leftArgs, newNames, netTerms, add}
 use Rattle.texts.specs.Answers.{OfText, accepted, refused, need, _>>=_, absent, holds, refuse, after, afterLine, readLines}
 use Rattle.texts.specs.RuleText.{headerOf, agentFields, even, ruleFields, ruleless, shapeOf, shape, fault3, termsOf, recordOf, meant, fault4, tooLong, bigNode, bigRecord, bigBook, fault5, fault6, wrongArgs, fault7, overNames, allDifferent, rightTimes, wrongTimes, fault8, samePair, fault9, wireOf, sameWire, within, wordAt, mirror, mirrored, oneSided, fault10, headerLine, judged, ruleLine, counted, rulesOfLines, readRules}
-use Rattle.texts.specs.NetText.{faceFields, eqFields, bigNet, netFault5, netFault7, netJudged, faceNet, moreNet, faceLine, eqLine, loose, netLines, looseLine, unlessLoose, tied, netCounted, faceAndEqs, netOfLines, readNet, netRead}
+use Rattle.texts.specs.NetText.{faceFields, eqFields, bigNet, netFault5, netFault7, netJudged, faceNet, moreNet, faceLine, eqLine, loose, netLines, looseLine, unlessLoose, namesTwice, netCounted, faceAndEqs, netOfLines, readNet, netRead}
 use Rattle.texts.specs.Proofs.Reader.{atComma, atOpen, atClose, onPart, partOf, whole, termOf}
 
 -- An answer has this number on this line; twice 0 stands for an accepted text.
@@ -64,6 +64,6 @@ unfolding gives rules listed net cases any all keep same among times different i
     fault5 fault6 wrongArgs fault7 overNames allDifferent rightTimes wrongTimes fault8 samePair fault9 wireOf
     sameWire within wordAt mirror mirrored oneSided fault10 headerLine judged ruleLine counted rulesOfLines
     readRules faceFields eqFields bigNet netFault5 netFault7 netJudged faceNet moreNet faceLine eqLine loose
-    netLines looseLine unlessLoose tied netCounted faceAndEqs netOfLines readNet netRead atComma atOpen
+    netLines looseLine unlessLoose namesTwice netCounted faceAndEqs netOfLines readNet netRead atComma atOpen
     atClose onPart partOf whole termOf
 the-answers = refl

@@ -13,7 +13,7 @@ use Rattle.texts.specs.Terms.{identifier, symbol, count, nodes, wordsOf, nodesA
 use Rattle.texts.specs.Books.{declared, takes, cellsOf, namesOf, sides, pairs, lefts, rights, headOf, heads, argsOf, leftArgs, newNames, netTerms, add, writeFace, writeEquation}
 use Rattle.texts.specs.Answers.{need, _>>=_, absent, holds, refuse, after, afterLine, readLines}
 use Rattle.texts.specs.RuleText.{headerOf, agentFields, even, ruleFields, ruleless, shapeOf, shape, fault3, termsOf, recordOf, meant, fault4, tooLong, bigNode, bigRecord, bigBook, fault5, fault6, wrongArgs, fault7, overNames, allDifferent, rightTimes, wrongTimes, fault8, samePair, fault9, wireOf, sameWire, within, wordAt, mirror, mirrored, oneSided, fault10, headerLine, judged, ruleLine, counted, rulesOfLines, readRules}
-use Rattle.texts.specs.NetText.{faceFields, eqFields, bigNet, netFault5, netFault7, netJudged, faceNet, moreNet, faceLine, eqLine, loose, netLines, looseLine, unlessLoose, tied, netCounted, faceAndEqs, netOfLines, readNet, netRead}
+use Rattle.texts.specs.NetText.{faceFields, eqFields, bigNet, netFault5, netFault7, netJudged, faceNet, moreNet, faceLine, eqLine, loose, netLines, looseLine, unlessLoose, namesTwice, netCounted, faceAndEqs, netOfLines, readNet, netRead}
 use Rattle.texts.specs.Coded.{symbolOf, packed, twos, size, codeAt, codes, cellsAt, cellsFrom, ruleNumber, template, tableOf, machine, netNumber, load}
 use Rattle.texts.specs.Proofs.Reader.{atComma, atOpen, atClose, onPart, partOf, whole, termOf}
 use Rattle.model.specs.Stepped.{stepped}
@@ -43,7 +43,7 @@ unfolding text of-net of-texts steps-from came any all keep same among times dif
     overNames allDifferent rightTimes wrongTimes fault8 samePair fault9 wireOf sameWire within wordAt mirror
     mirrored oneSided fault10 headerLine judged ruleLine counted rulesOfLines readRules faceFields eqFields
     bigNet netFault5 netFault7 netJudged faceNet moreNet faceLine eqLine loose netLines looseLine unlessLoose
-    tied netCounted faceAndEqs netOfLines readNet netRead atComma atOpen atClose onPart partOf whole termOf
+    namesTwice netCounted faceAndEqs netOfLines readNet netRead atComma atOpen atClose onPart partOf whole termOf
     symbolOf packed twos size codeAt codes cellsAt cellsFrom ruleNumber template tableOf machine netNumber load
     stepped run ran loaded state-answer spelling numeral answer-text spelt digits ended stopped refusal ending
     running net-printed rules-printed evaluated if-eq side ℕ-discrete decLt decLe decimal textOf tabbed lineOf
