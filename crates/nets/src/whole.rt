@@ -122,11 +122,7 @@ pub fn read_lines(
 {
     match first_line(text) {
         First::Wrong { number } => refused(number, 1),
-        First::Counted {
-            upper,
-            lower,
-            next,
-        } => {
+        First::Counted { upper, lower, next } => {
             match second_line(text, next, agents, sheet, codes, marks) {
                 Second::Bad { number: bad } => refused(bad, 2),
                 Second::Face { terms, next: at } => after_face(

@@ -35,6 +35,11 @@ module _ {A : Type 0} where
   abbrev pub In : A → List A → Type 0
   In x xs = List·Memᴰ x xs
 
+-- No word twice.
+unfoldable pub Distinct : List Word → Type 0
+Distinct [] = Unit {0}
+Distinct (w ∷ ws) = (¬ In w ws) × Distinct ws
+
 -- Byte for byte.
 unfoldable pub same : Word → Word → Bool
 same [] [] = true
