@@ -49,7 +49,7 @@ find x (e ∷ l) = if-eq x (e .name) (known (e .number)) (find x l)
 pub record Reader : Type 0 where
   pub next : ℕ
   pub numbers : List Numbered
-  pub left : List Eqn
+  pub unmet : List Eqn
 
 -- What was read: the term as printed, in which `var k` is `_k`, and the reader after it.
 pub record Reading (s : Sort) : Type 0 where
@@ -58,7 +58,7 @@ pub record Reading (s : Sort) : Type 0 where
 
 -- Names left take the next number: one name, or two that are joined; l are the equations then not met.
 abbrev pub take-number : List Numbered → Reader → List Eqn → Reading one
-take-number ns S l = record { shown = var (S .next); after = record { next = suc (S .next); numbers = ns; left = l } }
+take-number ns S l = record { shown = var (S .next); after = record { next = suc (S .next); numbers = ns; unmet = l } }
 
 abbrev pub with-next : ℕ → Reader → Numbered
 with-next x S = record { name = x; number = S .next }
@@ -67,10 +67,10 @@ with-next x S = record { name = x; number = S .next }
 -- first meeting."
 abbrev pub named : (Term → Reader → Reading one) → ℕ → Reader → Found → Pick → Reading one
 named tied x S (known k) p = record { shown = var k; after = S }
-named tied x S unknown alone = take-number (with-next x S ∷ S .numbers) S (S .left)
+named tied x S unknown alone = take-number (with-next x S ∷ S .numbers) S (S .unmet)
 named tied x S unknown (beside (var y) l) = take-number (with-next x S ∷ with-next y S ∷ S .numbers) S l
 named tied x S unknown (beside (node a ts) l) =
-    tied (node a ts) (record { next = S .next; numbers = S .numbers; left = l })
+    tied (node a ts) (record { next = S .next; numbers = S .numbers; unmet = l })
 
 abbrev pub agent : ℕ → Reading many → Reading one
 agent a r = record { shown = node a (r .shown); after = r .after }
@@ -80,7 +80,7 @@ then t r = record { shown = cons t (r .shown); after = r .after }
 
 -- Read from left to right, where it is known how to read what is tied.
 abbrev pub read-by : (Term → Reader → Reading one) → {s : Sort} → Tree s → Reader → Reading s
-read-by tied (var x) S = named tied x S (find x (S .numbers)) (pick x (S .left))
+read-by tied (var x) S = named tied x S (find x (S .numbers)) (pick x (S .unmet))
 read-by tied (node a ts) S = agent a (read-by tied ts S)
 read-by tied nil S = record { shown = nil; after = S }
 read-by tied (cons t ts) S = then ((read-by tied t S) .shown) (read-by tied ts ((read-by tied t S) .after))
@@ -148,7 +148,7 @@ pub record Answer : Type 0 where
   pub knot : ℕ
 
 abbrev pub start : Conf → Reader
-start C = record { next = 0; numbers = []; left = C .eqs }
+start C = record { next = 0; numbers = []; unmet = C .eqs }
 
 -- "Terms are read from the interface left to right, then the stuck pairs from the head, left side first."
 abbrev pub face-read : Conf → Reading many
@@ -165,5 +165,5 @@ answer C =
       pairs = (pairs-read C) .shown;
       stuck = length (stuck (C .eqs));
       loops = loops (C .eqs);
-      knot = tied-agents ((pairs-read C) .after .left);
+      knot = tied-agents ((pairs-read C) .after .unmet);
     }

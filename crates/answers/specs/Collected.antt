@@ -20,7 +20,7 @@ pub data Substitutes : Conf → Conf → Type 0 where
 
 -- Terms with their names numbered by first meeting, and no equation looked at: from 0 on, or on from other terms.
 abbrev pub fresh : Reader
-fresh = record { next = 0; numbers = []; left = [] }
+fresh = record { next = 0; numbers = []; unmet = [] }
 
 abbrev pub numbered : Terms → Reader → Reading many
 numbered ts R = read 0 ts R

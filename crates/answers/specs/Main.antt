@@ -46,7 +46,7 @@ use Rattle.answers.specs.Proofs.StateAnswer.{state-is-net}
 use Rattle.answers.specs.Proofs.AnswerBytes.{bytes-of-answer, knot-of-answer}
 
 -- The number that bounds a reading does not matter if it is not below the number of the equations left.
-pub enough : (n m : ℕ) {s : Sort} (t : Tree s) (S : Reader) → length (S .left) ≤ n → length (S .left) ≤ m
+pub enough : (n m : ℕ) {s : Sort} (t : Tree s) (S : Reader) → length (S .unmet) ≤ n → length (S .unmet) ≤ m
     → read n t S ≡ read m t S
 enough n m t S a b = Whole.read-enough n m t S a b
 

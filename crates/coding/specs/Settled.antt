@@ -9,7 +9,7 @@ use Rattle.texts.specs.Books as Books
 use Rattle.texts.specs.Answers.{OfLine, fine, fault, refuse}
 use Rattle.texts.specs.RuleText.{fault9, fault10}
 use Rattle.texts.specs.Coded.{template}
-use Rattle.texts.specs.Conditions.{SoundRule}
+use Rattle.texts.specs.Proofs.RuleSound.{SoundRule}
 use Rattle.texts.specs.Bytes.{In}
 use Rattle.texts.specs.Proofs.Templates.{Few}
 use Rattle.table.specs.declared.Rule.{Rule}

@@ -24,7 +24,7 @@ use Rattle.table.specs.Given.{Given}
 use Rattle.state.specs.Layout.{view}
 use Rattle.sound.specs.Lent.{under}
 use Rattle.lent.specs.Both.{BothSound, stands-for, under-is, given-tested, given-usable}
-use Rattle.rules.specs.Answer.{Refusal, refusal, left, leftBy, rulesRead}
+use Rattle.rules.specs.Answer.{Refusal, refusal, leaves, leavesBy, rulesRead}
 use Rattle.rules.specs.declared.RulesAnswer.{RulesAnswer}
 use Rattle.rules.specs.declared.RulesAnswer.the-variants as Rules
 use Rattle.nets.specs.Answer.{filled, kept, told, soundTable, callBy, netCall}
@@ -109,22 +109,22 @@ module _ (text w v v′ : List ℕ) (given : Given w) (a : NetAnswer) (e : told 
       subst (λ y. Printed (net-printed (agentsIn w) (under w) y) o r o′) (sym (net-fault n l q)) (begun-printed p)
 
 -- The rule text.
-module _ (text net w u : List ℕ) (a : RulesAnswer) (e : left a u ≡ rulesRead text w) where
+module _ (text net w u : List ℕ) (a : RulesAnswer) (e : leaves a u ≡ rulesRead text w) where
   book-read : a ≡ Rules.Accepted → (b : Book) × (readRules text ≡ accepted b) × (u ≡ tableBytes b)
-  unfolding left rulesRead refusal leftBy
-  book-read q = go (readRules text) refl (ap (λ x. left x u) (sym q) ∙ e)
+  unfolding leaves rulesRead refusal leavesBy
+  book-read q = go (readRules text) refl (ap (λ x. leaves x u) (sym q) ∙ e)
     where
-      go : (x : OfText Book) → readRules text ≡ x → record { said = none; table = u } ≡ leftBy x w
+      go : (x : OfText Book) → readRules text ≡ x → record { said = none; table = u } ≡ leavesBy x w
           → (b : Book) × (readRules text ≡ accepted b) × (u ≡ tableBytes b)
       go (accepted b) r k = (b, r, ap (λ s. s .table) k)
       go (refused n j) r k =
           absurd (let q : _≡_ {A = Option Refusal} none (some (record { number = n; line = j })) = ap (λ s. s .said) k in let z : _≡_ {A = ℕ} 0 1 = cc in omega arith)
 
   rules-fault : (n l : ℕ) → a ≡ Rules.Refused n l → readRules text ≡ refused n l
-  unfolding left rulesRead refusal leftBy
-  rules-fault n l q = go (readRules text) refl (ap (λ x. left x u) (sym q) ∙ e)
+  unfolding leaves rulesRead refusal leavesBy
+  rules-fault n l q = go (readRules text) refl (ap (λ x. leaves x u) (sym q) ∙ e)
     where
-      go : (x : OfText Book) → readRules text ≡ x → record { said = some (record { number = n; line = l }); table = u } ≡ leftBy x w
+      go : (x : OfText Book) → readRules text ≡ x → record { said = some (record { number = n; line = l }); table = u } ≡ leavesBy x w
           → readRules text ≡ refused n l
       go (accepted b) r k =
           absurd (let q : _≡_ {A = Option Refusal} (some (record { number = n; line = l })) none = ap (λ s. s .said) k in let z : _≡_ {A = ℕ} 0 1 = cc in omega arith)

@@ -44,7 +44,7 @@ module _ (m n : Word) {q : Number} (e : valueOf q ≡ numberOf m) where
         let z : some a ≡ numberOf m = rw h at e in
         let y : none ≡ numberOf n = rw k at f in rw (← z, ← y)
 
-    pub both-good : {b : ℕ} → p ≡ Value b → some (record { first = a; second = b }) ≡ bothCounts m n
+    pub both-good : {b : ℕ} → p ≡ Value b → some (record { upper = a; lower = b }) ≡ bothCounts m n
     unfolding bothCounts _>>=_
     both-good {b} k =
         let z : some a ≡ numberOf m = rw h at e in

@@ -14,12 +14,12 @@ use Rattle.lines.specs.declared.Header.{Header}
 
 -- what an answer about a header stands for
 abbrev pub countsOf : Header → Option Counts
-countsOf (Header.Counts a b) = some (record { first = a; second = b })
+countsOf (Header.Counts a b) = some (record { upper = a; lower = b })
 countsOf Header.Wrong = none
 
 -- the counts that two fields spell
 unfoldable pub bothCounts : Word → Word → Option Counts
-bothCounts m n = numberOf m >>= λ a. numberOf n >>= λ b. some (record { first = a; second = b })
+bothCounts m n = numberOf m >>= λ a. numberOf n >>= λ b. some (record { upper = a; lower = b })
 
 -- an identifier of the field is too long or its level too high
 unfoldable pub tooBig : Word → Bool

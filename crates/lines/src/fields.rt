@@ -31,10 +31,7 @@ fn both_counts(first: &[u8], second: &[u8]) -> Header
         Number::Nothing => Header::Wrong,
         Number::Value(a) => match decimal(second) {
             Number::Nothing => Header::Wrong,
-            Number::Value(b) => Header::Counts {
-                first: a,
-                second: b,
-            },
+            Number::Value(b) => Header::Counts { upper: a, lower: b },
         },
     }
 }

@@ -5,6 +5,6 @@ pub mod names; // names.rt: the new names of a part, entered on a sheet
 
 // The two counts of a header; or the line is no header of that word.
 pub enum Header {
-    Counts { first: usize, second: usize },
+    Counts { upper: usize, lower: usize },
     Wrong,
 }

@@ -11,4 +11,4 @@ use Rattle.nets.specs.declared.front.First.the-variants.{Wrong, Counted}
 
 unfoldable pub Headed : List ℕ → ℕ → First → Type 0
 Headed line next (Wrong n) = (headerLine wordNet (endedLine line) ≡ fault n) × (¬ (n ≡ 0))
-Headed line next (Counted a b k) = (headerLine wordNet (endedLine line) ≡ fine (record { first = a; second = b })) × (k ≡ next)
+Headed line next (Counted a b k) = (headerLine wordNet (endedLine line) ≡ fine (record { upper = a; lower = b })) × (k ≡ next)

@@ -70,7 +70,7 @@ pub record EqsRead (text : List ℕ) (ags : List Agent) (at : ℕ) (m : Net) (nu
 unfoldable pub FirstRead : List ℕ → First → Type 0
 FirstRead text (Wrong n) = ((ags : List Agent) → netOfLines ags (lines text) ≡ refused n 1) × (¬ (n ≡ 0))
 FirstRead text (Counted a b next) =
-    ((ags : List Agent) → netOfLines ags (lines text) ≡ faceAndEqs ags (record { first = a; second = b }) (lines (drop next text)))
+    ((ags : List Agent) → netOfLines ags (lines text) ≡ faceAndEqs ags (record { upper = a; lower = b }) (lines (drop next text)))
     × (next ≤ length text)
 
 -- The `face` line: its fault; or the net of it, and where the next line begins.

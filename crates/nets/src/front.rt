@@ -33,8 +33,8 @@ pub enum First {
         number: u8,
     },
     Counted {
-        first: usize,
-        second: usize,
+        upper: usize,
+        lower: usize,
         next: usize,
     },
 }
@@ -54,9 +54,9 @@ fn header_line(line: &[u8], next: usize) -> First
     }
     match header(line, b"net") {
         Header::Wrong => First::Wrong { number: 3 },
-        Header::Counts { first, second } => First::Counted {
-            first: first,
-            second: second,
+        Header::Counts { upper, lower } => First::Counted {
+            upper: upper,
+            lower: lower,
             next: next,
         },
     }

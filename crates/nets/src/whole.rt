@@ -69,8 +69,8 @@ fn after_face(
     at: usize,
     table: &[u8; Limits::TABLE],
     agents: &[u8],
-    first: usize,
-    second: usize,
+    upper: usize,
+    lower: usize,
     f: usize,
     sheet: &mut [u16; Sheet::SIZE],
     codes: &mut [u16; Codes::SIZE],
@@ -80,7 +80,7 @@ fn after_face(
         × ((m : Net) × Begun (now text) (agentsOf (now agents)) (now table) f m (view (now sheet)) (now codes) (now marks)) ⌝ }
     ensures { λ r. ⌜ ((m : Net) → Begun (now (text .entry)) (agentsOf (now (agents .entry))) (now (table .entry)) f m (view (now (sheet .entry))) (now (codes .entry)) (now (marks .entry))
         → TextRead (now (text .entry)) (agentsOf (now (agents .entry)))
-        (after (readLines (eqLine (agentsOf (now (agents .entry)))) 3 m (lines (drop at (now (text .entry))))) (netCounted (agentsOf (now (agents .entry))) (record { first = first; second = second })))
+        (after (readLines (eqLine (agentsOf (now (agents .entry)))) 3 m (lines (drop at (now (text .entry))))) (netCounted (agentsOf (now (agents .entry))) (record { upper = upper; lower = lower })))
         (r .number) (r .line) (r .faces) (r .equations) (view (now (sheet .exit))) (now (codes .exit)) (now (marks .exit))) ⌝ }
 {
     let stop = read_eqs(text, at, agents, f, sheet, codes, marks);
@@ -89,10 +89,10 @@ fn after_face(
     if number != 0 {
         return refused(number, 3 + k);
     }
-    if first != f {
+    if upper != f {
         return refused(11, 1);
     }
-    if second != k {
+    if lower != k {
         return refused(11, 1);
     }
     let l = loose_line(table, sheet, codes, marks, f, k);
@@ -122,11 +122,7 @@ pub fn read_lines(
 {
     match first_line(text) {
         First::Wrong { number } => refused(number, 1),
-        First::Counted {
-            first,
-            second,
-            next,
-        } => {
+        First::Counted { upper, lower, next } => {
             match second_line(text, next, agents, sheet, codes, marks) {
                 Second::Bad { number: bad } => refused(bad, 2),
                 Second::Face { terms, next: at } => after_face(
@@ -134,8 +130,8 @@ pub fn read_lines(
                     at,
                     table,
                     agents,
-                    first,
-                    second,
+                    upper,
+                    lower,
                     terms,
                     sheet,
                     codes,

@@ -1,26 +1,26 @@
 -- The first line of what is printed, field by field: of a refusal, of a run that was stopped, and of one that ended.
 use Prim.Native.Nat.{ℕ}
 use mathlib.Core.List.{List, [], _∷_}
-use Rattle.texts.specs.Bytes.{Word, textOf, lineOf}
+use Rattle.texts.specs.Bytes.{Word, bytes, textOf, lineOf}
 use Rattle.report.specs.Numbers.{digits}
 
 abbrev pub wordRefused : Word
-wordRefused = 114 ∷ 101 ∷ 102 ∷ 117 ∷ 115 ∷ 101 ∷ 100 ∷ []
+wordRefused = bytes "refused"
 
 abbrev pub wordRan : Word
-wordRan = 114 ∷ 97 ∷ 110 ∷ []
+wordRan = bytes "ran"
 
 abbrev pub wordEnded : Word
-wordEnded = 101 ∷ 110 ∷ 100 ∷ 101 ∷ 100 ∷ []
+wordEnded = bytes "ended"
 
 abbrev pub wordPaused : Word
-wordPaused = 112 ∷ 97 ∷ 117 ∷ 115 ∷ 101 ∷ 100 ∷ []
+wordPaused = bytes "paused"
 
 abbrev pub wordNoroom : Word
-wordNoroom = 110 ∷ 111 ∷ 114 ∷ 111 ∷ 111 ∷ 109 ∷ []
+wordNoroom = bytes "noroom"
 
 abbrev pub wordAnswer : Word
-wordAnswer = 97 ∷ 110 ∷ 115 ∷ 119 ∷ 101 ∷ 114 ∷ []
+wordAnswer = bytes "answer"
 
 -- "A refusal prints `refused`, `rules` or `net` or `answer`, number, line (0 for answer), and no other line."
 unfoldable pub refusal : Word → ℕ → ℕ → List ℕ

@@ -1,7 +1,7 @@
 -- The bench cases P1 to P10 of document 01, from the bytes of the two texts to the bytes that are printed; and that the
 -- premises of demand 3 are not empty.
-use Rattle.review.specs.Words.{ℕ, _≡_, List, StepAnswer}
-use Rattle.review.specs.Examples.{bytes, text, rules, listing-net, Bench, ackermann-rules, ackermann-net}
+use Rattle.review.specs.Words.{ℕ, _≡_, List, bytes, StepAnswer}
+use Rattle.review.specs.Examples.{text, rules, listing-net, Bench, ackermann-rules, ackermann-net}
 use Rattle.review.specs.Picks.{Calls, Premise}
 use Rattle.review.specs.Proofs.{Computed.computed, Computed.ackermann, Made.pick-at, Made.answer-at, Made.state-at, Made.calls-on, Walking.start-sound}
 

@@ -1,13 +1,6 @@
 -- The texts of the examples: the bench cases P1 to P10 of document 01, and the Ackermann book of document 001.
-use Prim.Native.Char.{code}
-use Prim.Native.String.{[] as []ᵀ, _∷_ as _∷ᵀ_}
-use Rattle.review.specs.Words.{ℕ, String, _≡_, List, [], _∷_, _++_, used, view, evaluated}
+use Rattle.review.specs.Words.{ℕ, String, _≡_, List, [], _∷_, _++_, bytes, used, view, evaluated}
 use Rattle.review.specs.Picks.{first-picks, Premise}
-
--- The bytes of a text.
-unfoldable pub bytes : String → List ℕ
-bytes []ᵀ = []
-bytes (c ∷ᵀ s) = code c ∷ bytes s
 
 -- Lines, each with its newline.
 unfoldable pub text : List String → List ℕ

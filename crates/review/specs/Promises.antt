@@ -1,7 +1,7 @@
 -- What each public call promises, word for word: one relation between what it was lent, its answer and what it leaves.
 use Rattle.answers.specs.Answer.{Answer}
 use Rattle.answer.specs.declared.EndAnswer.{EndAnswer}
-use Rattle.review.specs.Words.{ℕ, _≤_, _≡_, Bool, true, List, _++_, _↔_, length, drop, sets, state-size, view, Words, empty, meaning, answer, answer-text, agentsIn, bytesOf, no-table, Given, BothSound, sound-state, left, rulesRead, RulesAnswer, told, netCall, NetAnswer, end-told, given, called, evaluated, out, step-told, step-called, run-told, run-called, StepAnswer, RunAnswer}
+use Rattle.review.specs.Words.{ℕ, _≤_, _≡_, Bool, true, List, _++_, _↔_, length, drop, sets, state-size, view, Words, empty, meaning, answer, answer-text, agentsIn, bytesOf, no-table, Given, BothSound, sound-state, leaves, rulesRead, RulesAnswer, told, netCall, NetAnswer, end-told, given, called, evaluated, out, step-told, step-called, run-told, run-called, StepAnswer, RunAnswer}
 
 -- A lent state: an array of that many words of 16 bits. Every array that a caller can lend is one.
 pub record StateArray (v : List ℕ) : Type 0 where
@@ -10,7 +10,7 @@ pub record StateArray (v : List ℕ) : Type 0 where
 
 -- read_rules, lent a text and a table, answers r and leaves the table u.
 pub record RulesCall (text table : List ℕ) (r : RulesAnswer) (u : List ℕ) : Type 0 where
-  pub promised : left r u ≡ rulesRead text table
+  pub promised : leaves r u ≡ rulesRead text table
 
 -- read_net, lent a text, a table w and a state v, answers r and leaves the state v′.
 pub record NetCall (text w v : List ℕ) (r : NetAnswer) (v′ : List ℕ) : Type 0 where

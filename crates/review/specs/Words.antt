@@ -7,7 +7,7 @@ pub use Rattle.calculus.specs.Nets.{_≈_}
 pub use Rattle.calculus.specs.Calculus.{Label, Communication, Interaction, Step}
 pub use Rattle.calculus.specs.Terms.{Conf}
 pub use Rattle.calculus.specs.Descent.{Steps, Normal}
-pub use Rattle.texts.specs.Bytes.{lines, Line, fault2, fields, Word, In}
+pub use Rattle.texts.specs.Bytes.{bytes, lines, Line, fault2, fields, Word, In}
 pub use Rattle.texts.specs.Books.{Book, Agent, wordNet, noBook, wordRules, Net, printBook, printNet}
 pub use Rattle.texts.specs.Answers.{accepted, fine, absent, holds, _>>=_, refused, readLines}
 pub use Rattle.texts.specs.RuleText.{rulesOfLines, Counts, headerOf, headerLine, termsOf, ruleLine, meant, fault3, fault4, fault5, fault6, fault7, fault8, fault9, fault10, readRules}
@@ -38,7 +38,7 @@ pub use Rattle.answers.specs.Collected.{Collected, Substituted}
 pub use Rattle.answers.specs.Knots.{Knotted}
 pub use Rattle.answers.specs.Text.{answer-text}
 pub use Rattle.rules.specs.declared.RulesAnswer.{RulesAnswer}
-pub use Rattle.rules.specs.Answer.{left, rulesRead}
+pub use Rattle.rules.specs.Answer.{leaves, rulesRead}
 pub use Rattle.nets.specs.Answer.{told, netCall}
 pub use Rattle.nets.specs.declared.NetAnswer.{NetAnswer}
 pub use Rattle.machine.specs.declared.calls.StepAnswer.{StepAnswer}

@@ -9,7 +9,7 @@ use Rattle.texts.specs.Bytes.{any}
 use Rattle.texts.specs.Terms.{nodes}
 use Rattle.texts.specs.Books.{Agent, Rule, lefts, rights, cellsOf, newNames}
 use Rattle.texts.specs.RuleText.{bigNode}
-use Rattle.texts.specs.Conditions.{SoundRule}
+use Rattle.texts.specs.Proofs.RuleSound.{SoundRule}
 use Rattle.table.specs.Laws.Whole.{FitAgents}
 use Rattle.rule_tests.specs.Fields.{Fields}
 

@@ -23,7 +23,7 @@ use Rattle.lines.specs.Fields.{countsOf}
 use Rattle.lines.specs.declared.Header.{Header}
 use Rattle.table.specs.Layout.{rulesIn, agentsIn, tableBytes}
 use Rattle.rule_lines.specs.Laws.{agents-counted, rules-counted}
-use Rattle.rules.specs.Answer.{refusal, left, leftBy, rulesRead}
+use Rattle.rules.specs.Answer.{refusal, leaves, leavesBy, rulesRead}
 use Rattle.rules.specs.Told.{Told, yes, no, counts, Compared}
 use Rattle.rules.specs.declared.RulesAnswer.{RulesAnswer}
 use Rattle.rules.specs.declared.RulesAnswer.the-variants.{Accepted, Refused}
@@ -131,8 +131,8 @@ module _ (text : List ℕ) (r : NextLine) (is : r ≡ nextLine text 0) where
   first-ended e h = ended-line text 0 is h
 
 -- the call
-pub too-long-text : (text v : List ℕ) → text-max < length text → left (Refused 1 0) v ≡ rulesRead text v
-unfolding left refusal rulesRead leftBy readRules
+pub too-long-text : (text v : List ℕ) → text-max < length text → leaves (Refused 1 0) v ≡ rulesRead text v
+unfolding leaves refusal rulesRead leavesBy readRules
 too-long-text text v h = rw (lt-ltb text-max (length text) h)
 
 module _ (text v : List ℕ) (h : length text ≤ text-max) (r : RulesAnswer) (u : List ℕ)
@@ -141,21 +141,21 @@ module _ (text v : List ℕ) (h : length text ≤ text-max) (r : RulesAnswer) (u
   unfolding readRules
   short-text = rw (le-ltb text-max (length text) h)
 
-  pub text-refused : (n k : ℕ) → r ≡ Refused n k → left (Refused n k) v ≡ rulesRead text v
-  unfolding left refusal rulesRead leftBy
+  pub text-refused : (n k : ℕ) → r ≡ Refused n k → leaves (Refused n k) v ≡ rulesRead text v
+  unfolding leaves refusal rulesRead leavesBy
   text-refused n k e = go t
     where
-      go : Told (rulesOfLines (lines text)) r u → left (Refused n k) v ≡ rulesRead text v
+      go : Told (rulesOfLines (lines text)) r u → leaves (Refused n k) v ≡ rulesRead text v
       go (yes b x s m) = absurd (let z : _≡_ {A = ℕ} 0 1 = cc in omega arith)
       go (no i j x s) =
           let p : n ≡ i = cc in
           let q : k ≡ j = cc in
           rw (short-text, x, p, q)
 
-  pub text-accepted : r ≡ Accepted → left Accepted u ≡ rulesRead text v
-  unfolding left refusal rulesRead leftBy
+  pub text-accepted : r ≡ Accepted → leaves Accepted u ≡ rulesRead text v
+  unfolding leaves refusal rulesRead leavesBy
   text-accepted e = go t
     where
-      go : Told (rulesOfLines (lines text)) r u → left Accepted u ≡ rulesRead text v
+      go : Told (rulesOfLines (lines text)) r u → leaves Accepted u ≡ rulesRead text v
       go (yes b x s m) = rw (short-text, x, m)
       go (no i j x s) = absurd (let z : _≡_ {A = ℕ} 0 1 = cc in omega arith)

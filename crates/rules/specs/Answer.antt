@@ -20,18 +20,18 @@ refusal Accepted = none
 refusal (Refused n k) = some (record { number = n; line = k })
 
 -- What a call leaves: the number and line that it answers, if any, and every byte of the lent table.
-pub record Left : Type 0 where
+pub record Leaves : Type 0 where
   pub said : Option Refusal
   pub table : List ℕ
 
-unfoldable pub left : RulesAnswer → List ℕ → Left
-left r w = record { said = refusal r; table = w }
+unfoldable pub leaves : RulesAnswer → List ℕ → Leaves
+leaves r w = record { said = refusal r; table = w }
 
 -- Of a text that means a book the lent table becomes the table of that book, whatever it was. "All refusals leave lent
 -- table [..] unchanged."
-unfoldable pub leftBy : OfText Book → List ℕ → Left
-leftBy (accepted b) w = record { said = none; table = tableBytes b }
-leftBy (refused n k) w = record { said = some (record { number = n; line = k }); table = w }
+unfoldable pub leavesBy : OfText Book → List ℕ → Leaves
+leavesBy (accepted b) w = record { said = none; table = tableBytes b }
+leavesBy (refused n k) w = record { said = some (record { number = n; line = k }); table = w }
 
-unfoldable pub rulesRead : List ℕ → List ℕ → Left
-rulesRead text table = leftBy (readRules text) table
+unfoldable pub rulesRead : List ℕ → List ℕ → Leaves
+rulesRead text table = leavesBy (readRules text) table

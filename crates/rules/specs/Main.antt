@@ -20,7 +20,7 @@ use Rattle.texts.specs.Good.{GoodBook}
 use Rattle.texts.specs.Main as Texts
 use Rattle.table.specs.Layout.{tableBytes}
 use Rattle.table.specs.Given.{Given}
-use Rattle.rules.specs.Answer.{Refusal, refusal, Left, left, leftBy, rulesRead}
+use Rattle.rules.specs.Answer.{Refusal, refusal, Leaves, leaves, leavesBy, rulesRead}
 use Rattle.rules.specs.declared.RulesAnswer.{RulesAnswer}
 use Rattle.rules.specs.declared.RulesAnswer.the-variants.{Accepted, Refused}
 
@@ -44,14 +44,14 @@ refusal-tells (Refused n k) (Refused m j) e = let p = same-refusal e in rw (p .0
 
 -- No second answer and no second table meet the promise.
 pub only-answer : (text table : List ℕ) (r q : RulesAnswer) (u v : List ℕ)
-    → left r u ≡ rulesRead text table → left q v ≡ rulesRead text table → (r ≡ q) × (u ≡ v)
-unfolding left
+    → leaves r u ≡ rulesRead text table → leaves q v ≡ rulesRead text table → (r ≡ q) × (u ≡ v)
+unfolding leaves
 only-answer text table r q u v e f =
     let z = e ∙ sym f in (refusal-tells r q (ap (λ s. s .said) z), ap (λ s. s .table) z)
 
 -- The text decides alone what is said, whatever the lent table holds.
-said-same : (x : OfText Book) (v w : List ℕ) → (leftBy x v) .said ≡ (leftBy x w) .said
-unfolding leftBy
+said-same : (x : OfText Book) (v w : List ℕ) → (leavesBy x v) .said ≡ (leavesBy x w) .said
+unfolding leavesBy
 said-same (accepted b) v w = refl
 said-same (refused n k) v w = refl
 
@@ -60,48 +60,48 @@ unfolding rulesRead
 text-decides text v w = said-same (readRules text) v w
 
 -- A text that is accepted is the printed form of a good book, and the table is, in every byte, that of this book.
-pub accepted-table : (text table u : List ℕ) → left Accepted u ≡ rulesRead text table
+pub accepted-table : (text table u : List ℕ) → leaves Accepted u ≡ rulesRead text table
     → (b : Book) × (text ≡ printBook b) × GoodBook b × (u ≡ tableBytes b)
-unfolding left rulesRead refusal leftBy
+unfolding leaves rulesRead refusal leavesBy
 accepted-table text table u h = go (readRules text) refl h
   where
-    go : (x : OfText Book) → readRules text ≡ x → record { said = none; table = u } ≡ leftBy x table
+    go : (x : OfText Book) → readRules text ≡ x → record { said = none; table = u } ≡ leavesBy x table
         → (b : Book) × (text ≡ printBook b) × GoodBook b × (u ≡ tableBytes b)
     go (accepted b) e k = let p = Texts.rule-text-accepted text b .0 e in (b, p .0, p .1, ap (λ s. s .table) k)
     go (refused n j) e k = none-refused (ap (λ s. s .said) k)
 
 -- So it is sound: the test of tables says yes of it.
-pub accepted-sound : (text table u : List ℕ) → left Accepted u ≡ rulesRead text table → Given u
+pub accepted-sound : (text table u : List ℕ) → leaves Accepted u ≡ rulesRead text table → Given u
 accepted-sound text table u h = let p = accepted-table text table u h in (p .0, p .2, p .3)
 
 -- And each good book that is short enough is read as it is printed.
 pub printed-read : (b : Book) (table : List ℕ) → GoodBook b → length (printBook b) ≤ text-max
-    → left Accepted (tableBytes b) ≡ rulesRead (printBook b) table
-unfolding left rulesRead refusal leftBy
+    → leaves Accepted (tableBytes b) ≡ rulesRead (printBook b) table
+unfolding leaves rulesRead refusal leavesBy
 printed-read b table g h = rw (Texts.rule-text-accepted (printBook b) b .1 (refl, g, h))
 
 -- A text is refused with number n on line j exactly where document 01 says so, and the table is as it was.
-abbrev refusing : ℕ → ℕ → List ℕ → Left
+abbrev refusing : ℕ → ℕ → List ℕ → Leaves
 refusing n j u = record { said = some (record { number = n; line = j }); table = u }
 
 pub refused-exactly : (text table u : List ℕ) (n j : ℕ)
-    → (left (Refused n j) u ≡ rulesRead text table) ↔ (RulesRefused text n j × (u ≡ table))
-unfolding left rulesRead refusal leftBy
+    → (leaves (Refused n j) u ≡ rulesRead text table) ↔ (RulesRefused text n j × (u ≡ table))
+unfolding leaves rulesRead refusal leavesBy
 refused-exactly text table u n j = (to (readRules text) refl, from)
   where
-    to : (x : OfText Book) → readRules text ≡ x → refusing n j u ≡ leftBy x table → RulesRefused text n j × (u ≡ table)
+    to : (x : OfText Book) → readRules text ≡ x → refusing n j u ≡ leavesBy x table → RulesRefused text n j × (u ≡ table)
     to (accepted b) e k = none-refused (sym (ap (λ s. s .said) k))
     to (refused m i) e k =
         let p : (n ≡ m) × (j ≡ i) = same-refusal (ap (λ s. s .said) k) in
         (Texts.rule-text-refused text n j .0 (e ∙ rw (p .0, p .1)), ap (λ s. s .table) k)
 
-    from : RulesRefused text n j × (u ≡ table) → refusing n j u ≡ leftBy (readRules text) table
+    from : RulesRefused text n j × (u ≡ table) → refusing n j u ≡ leavesBy (readRules text) table
     from (r, e) = rw (Texts.rule-text-refused text n j .1 r, e)
 
 -- The header's counts are compared after all lines, and they decide nothing else.
 pub header-compared : (text table : List ℕ) (l : Line) (ls : List Line) (c : Counts) → length text ≤ text-max
     → lines text ≡ l ∷ ls → headerLine wordRules l ≡ fine c
-    → rulesRead text table ≡ leftBy (after (readLines ruleLine 2 noBook ls) (counted c)) table
+    → rulesRead text table ≡ leavesBy (after (readLines ruleLine 2 noBook ls) (counted c)) table
 unfolding rulesRead readRules
 header-compared text table l ls c h e k = rw (le-ltb text-max (length text) h, e, Texts.rule-header l ls c k)
 
@@ -109,21 +109,21 @@ header-compared text table l ls c h e k = rw (le-ltb text-max (length text) h, e
 module _ (text table : List ℕ) (l : Line) (ls : List Line) (c : Counts) (short : length text ≤ text-max)
     (cut : lines text ≡ l ∷ ls) (header : headerLine wordRules l ≡ fine c) where
   pub bad-line-wins : (n k : ℕ) → readLines ruleLine 2 noBook ls ≡ refused n k
-      → left (Refused n k) table ≡ rulesRead text table
-  unfolding left refusal leftBy after
+      → leaves (Refused n k) table ≡ rulesRead text table
+  unfolding leaves refusal leavesBy after
   bad-line-wins n k e = sym (header-compared text table l ls c short cut header ∙ rw e)
 
   not-counted : (b : Book) → ¬ Counted c b → counted c b ≡ refused 11 1
   unfolding counted Counted
-  not-counted b not = go (eqb (c .first) (length (b .agents))) (eqb (c .second) (length (b .rules))) refl refl
+  not-counted b not = go (eqb (c .upper) (length (b .agents))) (eqb (c .lower) (length (b .rules))) refl refl
     where
-      go : (t u : Bool) → eqb (c .first) (length (b .agents)) ≡ t → eqb (c .second) (length (b .rules)) ≡ u
+      go : (t u : Bool) → eqb (c .upper) (length (b .agents)) ≡ t → eqb (c .lower) (length (b .rules)) ≡ u
           → cond (t && u) (accepted b) (refused 11 1) ≡ refused 11 1
       go false u p q = refl
       go true false p q = refl
       go true true p q = absurd (not (eqb-true _ _ p, eqb-true _ _ q))
 
   pub header-lies : (b : Book) → readLines ruleLine 2 noBook ls ≡ accepted b → ¬ Counted c b
-      → left (Refused 11 1) table ≡ rulesRead text table
-  unfolding left refusal leftBy after
+      → leaves (Refused 11 1) table ≡ rulesRead text table
+  unfolding leaves refusal leavesBy after
   header-lies b e not = sym (header-compared text table l ls c short cut header ∙ rw (e, not-counted b not))

@@ -14,7 +14,7 @@ pub data Told (x : OfText Book) (r : RulesAnswer) (made : List ℕ) : Type 0 whe
   no : (n k : ℕ) → x ≡ refused n k → r ≡ Refused n k → Told x r made
 
 abbrev pub counts : ℕ → ℕ → Counts
-counts m n = record { first = m; second = n }
+counts m n = record { upper = m; lower = n }
 
 -- Number 11, of any book that the table is of.
 pub record Compared (c : Counts) (r : RulesAnswer) (made : List ℕ) : Type 0 where

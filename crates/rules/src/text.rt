@@ -49,16 +49,16 @@ fn read_records(text: &[u8], from: usize, table: &mut [u8; Limits::TABLE]) -> Ru
 }
 
 // Number 11, after all lines: a header's counts are compared with the records found, and nothing else.
-fn compare(first: usize, second: usize, table: &[u8; Limits::TABLE]) -> RulesAnswer
-    ensures { λ r. ⌜ Compared (counts first second) r (now (table .entry)) ⌝ }
+fn compare(upper: usize, lower: usize, table: &[u8; Limits::TABLE]) -> RulesAnswer
+    ensures { λ r. ⌜ Compared (counts upper lower) r (now (table .entry)) ⌝ }
 {
-    if first != wide(symbol_count(table)) {
+    if upper != wide(symbol_count(table)) {
         return RulesAnswer::Refused {
             number: 11,
             line: 1,
         };
     }
-    if second != rule_count(table) as usize {
+    if lower != rule_count(table) as usize {
         return RulesAnswer::Refused {
             number: 11,
             line: 1,
@@ -71,19 +71,19 @@ fn compare(first: usize, second: usize, table: &[u8; Limits::TABLE]) -> RulesAns
 fn read_counted(
     text: &[u8],
     from: usize,
-    first: usize,
-    second: usize,
+    upper: usize,
+    lower: usize,
     table: &mut [u8; Limits::TABLE],
 ) -> RulesAnswer
     requires { ⌜ (length (now text) ≤ text-max) × (from ≤ length (now text)) × (now table ≡ bytesOf no-table) ⌝ }
-    ensures { λ r. ⌜ Told (after (readLines ruleLine 2 noBook (lines (drop from (now (text .entry))))) (counted (counts first second))) r (now (table .exit)) ⌝ }
+    ensures { λ r. ⌜ Told (after (readLines ruleLine 2 noBook (lines (drop from (now (text .entry))))) (counted (counts upper lower))) r (now (table .exit)) ⌝ }
 {
     match read_records(text, from, table) {
         RulesAnswer::Refused { number, line } => RulesAnswer::Refused {
             number: number,
             line: line,
         },
-        RulesAnswer::Accepted => compare(first, second, table),
+        RulesAnswer::Accepted => compare(upper, lower, table),
     }
 }
 
@@ -98,7 +98,7 @@ fn read_header(text: &[u8], end: usize, table: &mut [u8; Limits::TABLE]) -> Rule
     }
     match header(line, b"rules") {
         Header::Wrong => RulesAnswer::Refused { number: 3, line: 1 },
-        Header::Counts { first, second } => read_counted(text, end + 1, first, second, table),
+        Header::Counts { upper, lower } => read_counted(text, end + 1, upper, lower, table),
     }
 }
 

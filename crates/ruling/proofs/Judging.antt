@@ -15,11 +15,11 @@ use Rattle.texts.specs.Answers.{fine, refuse, _>>=_}
 use Rattle.texts.specs.RuleText.{bigNode, termsOf, fault5, fault6, fault7, fault8, fault9, fault10, judged}
 use Rattle.texts.specs.Coded.{Table, tableOf, template, symbolOf}
 use Rattle.texts.specs.Good.{GoodBook}
-use Rattle.texts.specs.Conditions.{SoundRule}
+use Rattle.texts.specs.Proofs.RuleSound.{SoundRule, faults-sound}
 use Rattle.texts.specs.Proofs.Reader.{termOf}
 use Rattle.texts.specs.Proofs.Tools.{never, found}
 use Rattle.texts.specs.Proofs.Agents.{agents-tested, symbol-number}
-use Rattle.texts.specs.Proofs.BookSound.{good-sound, faults-sound}
+use Rattle.texts.specs.Proofs.BookSound.{good-sound}
 use Rattle.texts.specs.Proofs.RuleMeans.{Sized, good-sized}
 use Rattle.scan.specs.Cutting.{fieldStart}
 use Rattle.table.specs.declared.Rule.{Rule as Coded}
@@ -247,8 +247,8 @@ module _ (line w rest : List ℕ) (er : rest ≡ drop (fieldStart line 1) line) 
           record {
             symbols = subst (λ n. n ≤ symbols-max) (sym (ap (λ v. length (agentsIn v)) bytes ∙ (ap length (agents-back (tableOf b) fit-table) ∙ ap length (table-agents b)))) (fit .few);
             room = omega (arith, count-is, p .4);
-            left = omega (arith, symbols-are .0, symbol-number (b .agents) (headOf (r .first)) (sound .first-agent) .0, fit .few);
-            right = omega (arith, symbols-are .1, symbol-number (b .agents) (headOf (r .second)) (sound .second-agent) .0, fit .few);
+            left = omega (arith, symbols-are .0, symbol-number (b .agents) (headOf (r .first)) (sound .named .first-agent) .0, fit .few);
+            right = omega (arith, symbols-are .1, symbol-number (b .agents) (headOf (r .second)) (sound .named .second-agent) .0, fit .few);
             few = omega (arith, equations-are, p .1);
           }
 

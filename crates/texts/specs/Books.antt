@@ -3,7 +3,7 @@ use Prim.Native.Nat.{ℕ}
 use mathlib.Core.Bool.{Bool, cond, not}
 use mathlib.Core.List.{List, [], _∷_, _++_, map}
 use lib.ListN.{length}
-use Rattle.texts.specs.Bytes.{Word, keep, any, same, among, different, decimal, textOf, lineOf}
+use Rattle.texts.specs.Bytes.{Word, bytes, keep, any, same, among, different, decimal, textOf, lineOf}
 use Rattle.texts.specs.Terms.{Term, Terms, term, nil, cons, spell, nodes, wordsOf}
 
 pub record Agent : Type 0 where
@@ -85,24 +85,24 @@ newNames ags r = different (keep (λ w. not (among w (namesOf ags (lefts r)))) (
 unfoldable pub netTerms : Net → List Term
 netTerms n = n .face ++ sides (n .equations)
 
--- Writing. The words of the records are told as bytes; Words.antt spells them.
+-- Writing. The first words of the records.
 abbrev pub wordRules : Word
-wordRules = 114 ∷ 117 ∷ 108 ∷ 101 ∷ 115 ∷ []
+wordRules = bytes "rules"
 
 abbrev pub wordAgent : Word
-wordAgent = 97 ∷ 103 ∷ 101 ∷ 110 ∷ 116 ∷ []
+wordAgent = bytes "agent"
 
 abbrev pub wordRule : Word
-wordRule = 114 ∷ 117 ∷ 108 ∷ 101 ∷ []
+wordRule = bytes "rule"
 
 abbrev pub wordNet : Word
-wordNet = 110 ∷ 101 ∷ 116 ∷ []
+wordNet = bytes "net"
 
 abbrev pub wordFace : Word
-wordFace = 102 ∷ 97 ∷ 99 ∷ 101 ∷ []
+wordFace = bytes "face"
 
 abbrev pub wordEq : Word
-wordEq = 101 ∷ 113 ∷ []
+wordEq = bytes "eq"
 
 unfoldable pub writeHeader : Word → ℕ → ℕ → List ℕ
 writeHeader w m n = lineOf w (decimal m ∷ decimal n ∷ [])

@@ -1,5 +1,7 @@
 -- Bytes, lines, fields and numbers of a text. A byte is written as its number; Words.antt says which it is.
 use Prim.Native.Nat.{ℕ, suc, _+_, _*_, _-_, _/_, _%_}
+use Prim.Native.Char.{code}
+use Prim.Native.String.{String, [] as []ᵀ, _∷_ as _∷ᵀ_}
 use mathlib.Core.Bool.{Bool, true, false, cond, not, _&&_, _||_}
 use mathlib.Core.List.{List, [], _∷_, _++_, List·Memᴰ}
 use mathlib.Core.Option.{Option, none, some}
@@ -8,6 +10,11 @@ use lib.Dec.{ltb, leb, eqb}
 
 abbrev pub Word : Type 0
 Word = List ℕ
+
+-- The bytes of a string.
+abbrev pub bytes : String → List ℕ
+bytes []ᵀ = []
+bytes (c ∷ᵀ s) = code c ∷ bytes s
 
 -- Tests of lists: of some member, of every one.
 module _ {A : Type 0} where
@@ -27,6 +34,11 @@ module _ {A : Type 0} where
   -- x is one of a list
   abbrev pub In : A → List A → Type 0
   In x xs = List·Memᴰ x xs
+
+-- No word twice.
+unfoldable pub Distinct : List Word → Type 0
+Distinct [] = Unit {0}
+Distinct (w ∷ ws) = (¬ In w ws) × Distinct ws
 
 -- Byte for byte.
 unfoldable pub same : Word → Word → Bool

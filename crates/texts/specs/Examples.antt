@@ -6,13 +6,12 @@ use mathlib.Core.Bool.{Bool, true, false, _&&_}
 use mathlib.Core.List.{List, [], _∷_}
 use lib.ListN.{replicate}
 use lib.Dec.{eqb}
-use Rattle.texts.specs.Bytes.{any, all, keep, same, among, times, different, indexOf, letter, digit, wordByte, allowed, onLine, lines, fault2, onField, fields, isNumber, value, numberOf}
+use Rattle.texts.specs.Bytes.{bytes, any, all, keep, same, among, times, different, indexOf, letter, digit, wordByte, allowed, onLine, lines, fault2, onField, fields, isNumber, value, numberOf}
 use Rattle.texts.specs.Terms.{identifier, symbol, count, nodes, wordsOf, nodesAt}
 use Rattle.texts.specs.Books.{Agent, Book, Net, declared, takes, cellsOf, namesOf, sides, pairs, lefts, rights, headOf, heads, argsOf, leftArgs, newNames, netTerms, add}
 use Rattle.texts.specs.Answers.{OfText, accepted, refused, need, _>>=_, absent, holds, refuse, after, afterLine, readLines}
 use Rattle.texts.specs.RuleText.{headerOf, agentFields, even, ruleFields, ruleless, shapeOf, shape, fault3, termsOf, recordOf, meant, fault4, tooLong, bigNode, bigRecord, bigBook, fault5, fault6, wrongArgs, fault7, overNames, allDifferent, rightTimes, wrongTimes, fault8, samePair, fault9, wireOf, sameWire, within, wordAt, mirror, mirrored, oneSided, fault10, headerLine, judged, ruleLine, counted, rulesOfLines, readRules}
-use Rattle.texts.specs.NetText.{faceFields, eqFields, bigNet, netFault5, netFault7, netJudged, faceNet, moreNet, faceLine, eqLine, loose, netLines, looseLine, unlessLoose, tied, netCounted, faceAndEqs, netOfLines, readNet, netRead}
-use Rattle.texts.specs.Words.{bytes}
+use Rattle.texts.specs.NetText.{faceFields, eqFields, bigNet, netFault5, netFault7, netJudged, faceNet, moreNet, faceLine, eqLine, loose, netLines, looseLine, unlessLoose, namesTwice, netCounted, faceAndEqs, netOfLines, readNet, netRead}
 use Rattle.texts.specs.Proofs.Reader.{atComma, atOpen, atClose, onPart, partOf, whole, termOf}
 
 -- An answer has this number on this line; twice 0 stands for an accepted text.
@@ -27,8 +26,8 @@ rules s = readRules (bytes s)
 pub listed : List Agent
 listed =
     record { symbol = bytes "add"; arity = 2 }
-    ∷ record { symbol = 83 ∷ []; arity = 1 }
-    ∷ record { symbol = 90 ∷ []; arity = 0 }
+    ∷ record { symbol = bytes "S"; arity = 1 }
+    ∷ record { symbol = bytes "Z"; arity = 0 }
     ∷ []
 
 pub net : Bool → String → OfText Net
@@ -57,7 +56,7 @@ cases =
     ∷ []
 
 pub the-answers : all (λ c. c) cases ≡ true
-unfolding bytes gives rules listed net cases any all keep same among times different indexOf letter digit wordByte
+unfolding gives rules listed net cases any all keep same among times different indexOf letter digit wordByte
     allowed onLine lines fault2 onField fields isNumber value numberOf identifier symbol count nodes wordsOf
     nodesAt declared takes cellsOf namesOf sides pairs lefts rights headOf heads argsOf leftArgs newNames
     netTerms add need _>>=_ absent holds refuse after afterLine readLines headerOf agentFields even
@@ -65,6 +64,6 @@ unfolding bytes gives rules listed net cases any all keep same among times diffe
     fault5 fault6 wrongArgs fault7 overNames allDifferent rightTimes wrongTimes fault8 samePair fault9 wireOf
     sameWire within wordAt mirror mirrored oneSided fault10 headerLine judged ruleLine counted rulesOfLines
     readRules faceFields eqFields bigNet netFault5 netFault7 netJudged faceNet moreNet faceLine eqLine loose
-    netLines looseLine unlessLoose tied netCounted faceAndEqs netOfLines readNet netRead atComma atOpen
+    netLines looseLine unlessLoose namesTwice netCounted faceAndEqs netOfLines readNet netRead atComma atOpen
     atClose onPart partOf whole termOf
 the-answers = refl

@@ -3,7 +3,7 @@ use Prim.Native.Nat.{ℕ, _<_, _≤_}
 use mathlib.Core.Path.{_≡_}
 use mathlib.Core.Bool.{Bool, true, false}
 use mathlib.Core.Logic.{_↔_, _⊎_}
-use mathlib.Core.List.{List, _∷_}
+use mathlib.Core.List.{List, _∷_, _++_}
 use mathlib.Core.Option.{some}
 use lib.ListN.{length}
 use Rattle.parts.specs.Limits.{text-max}
@@ -16,17 +16,17 @@ use Rattle.model.specs.Sound as Machine
 use Rattle.model.specs.SoundTable as SoundTable
 use Rattle.texts.specs.Bytes.{Word, Line, fields, numberOf, decimal, In}
 use Rattle.texts.specs.Terms.{Term, spell, worded}
-use Rattle.texts.specs.Books.{Agent, Rule, Book, Record, isRule, noBook, Net, wordRules, wordNet, printBook, printNet}
+use Rattle.texts.specs.Books.{Agent, Rule, Book, Record, noBook, Net, lefts, rights, wordRules, wordNet, printBook, printNet}
 use Rattle.texts.specs.Answers.{fine, fault, accepted, refused, readLines, after}
-use Rattle.texts.specs.RuleText.{Counts, Shape, headerLine, fault3, fault4, fault7, fault8, ruleLine, counted, rulesOfLines, readRules}
-use Rattle.texts.specs.NetText.{eqLine, faceLine, faceAndEqs, netOfLines, readNet, netRead}
+use Rattle.texts.specs.RuleText.{Counts, Shape, headerLine, fault3, fault4, fault7, fault8, fault10, ruleLine, counted, rulesOfLines, readRules}
+use Rattle.texts.specs.NetText.{netFault7, eqLine, faceLine, faceAndEqs, netOfLines, readNet, netRead}
 use Rattle.texts.specs.Coded.{Table, tableOf, template, machine, load}
 use Rattle.texts.specs.Meaning.{meantRule, meantNet}
 use Rattle.texts.specs.TableTest.{testTable}
 use Rattle.texts.specs.Refused.{First, RulesRefused, NetRefused}
 use Rattle.texts.specs.Tests.{ruleTests, eqTests, faceTests}
 use Rattle.texts.specs.Good.{Spelt, GoodBook, GoodNet, SoundTable}
-use Rattle.texts.specs.Conditions.{shapeFields, Fits, shapeFor, SoundRule, SpeltAgents}
+use Rattle.texts.specs.Conditions.{shapeFields, Fits, shapeFor, OfRule, Argued, WellNamed, TwoSided, SpeltAgents}
 use Rattle.texts.specs.Proofs.Reader.{termOf}
 use Rattle.texts.specs.Proofs.Spelling.{term-exact}
 use Rattle.texts.specs.Proofs.Splitting.{number-exact}
@@ -35,7 +35,8 @@ use Rattle.texts.specs.Proofs.RuleExact.{rule-line-exact, rules-refused}
 use Rattle.texts.specs.Proofs.RuleMeans.{rules-accepted, print-unique}
 use Rattle.texts.specs.Proofs.BookSound.{sound-table, header-compared}
 use Rattle.texts.specs.Proofs.Exact.{test-sound}
-use Rattle.texts.specs.Proofs.RuleSound.{rule-sound-exact}
+use Rattle.texts.specs.Proofs.RuleSound.{fault7-exact, net-fault7-exact, fault8-exact}
+use Rattle.texts.specs.Proofs.TwoSided.{fault10-exact}
 use Rattle.texts.specs.Proofs.NetExact.{face-exact, eq-exact, net-refused}
 use Rattle.texts.specs.Proofs.NetMeans.{net-accepted, net-print-unique}
 use Rattle.texts.specs.Proofs.NetRead.{net-header, net-read-refused, net-read-accepted}
@@ -78,10 +79,25 @@ pub number-4 : (b : Book) (l : Line)
     ↔ ((s : Shape) × (shapeFields s ≡ fields (l .bytes)) × Fits b s × ((r : Record) → shapeFor r ≡ s → ¬ Spelt r))
 number-4 = fault4-exact
 
--- Numbers 7 and 8: a rule has neither exactly if it meets the rule conditions of document 01.
-pub numbers-7-8 : (b : Book) (r : Rule)
-    → ((fault7 b (isRule r) ≡ false) × (fault8 b (isRule r) ≡ false)) ↔ SoundRule (b .agents) r
-numbers-7-8 = rule-sound-exact
+-- Number 7: a rule has it exactly if some argument count in it is wrong, and an agent never.
+pub number-7 : (b : Book) (r : Record)
+    → (fault7 b r ≡ false) ↔ OfRule (λ q. Argued (b .agents) (lefts q ++ rights q)) r
+number-7 = fault7-exact
+
+-- The same of a line of a net text.
+pub net-number-7 : (ags : List Agent) (ts : List Term) → (netFault7 ags ts ≡ false) ↔ Argued ags ts
+net-number-7 = net-fault7-exact
+
+-- Number 8: a rule has it exactly if it does not meet the rule conditions, and an agent never.
+pub number-8 : (b : Book) (r : Record) → (fault8 b r ≡ false) ↔ OfRule (WellNamed (b .agents)) r
+number-8 = fault8-exact
+
+-- Number 10: a rule that has neither 7 nor 8 has it exactly if it is one of a symbol with itself and does not read the
+-- same from both sides, and an agent never.
+pub number-10 : (b : Book) (r : Record)
+    → OfRule (λ q. Argued (b .agents) (lefts q ++ rights q)) r → OfRule (WellNamed (b .agents)) r
+    → (fault10 b r ≡ false) ↔ OfRule (TwoSided (b .agents)) r
+number-10 = fault10-exact
 
 -- A text is refused with number n on line j exactly where `RulesRefused` and `NetRefused` say so.
 pub rule-text-refused : (text : List ℕ) (n j : ℕ) → (readRules text ≡ refused n j) ↔ RulesRefused text n j

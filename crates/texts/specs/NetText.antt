@@ -79,12 +79,12 @@ unfoldable pub unlessLoose : Option ℕ → Net → OfText Net
 unlessLoose none n = accepted n
 unlessLoose (some k) n = refused 8 k
 
-unfoldable pub tied : List Agent → Net → OfText Net
-tied ags n = unlessLoose (looseLine ags (namesOf ags (netTerms n)) 2 (netLines n)) n
+unfoldable pub namesTwice : List Agent → Net → OfText Net
+namesTwice ags n = unlessLoose (looseLine ags (namesOf ags (netTerms n)) 2 (netLines n)) n
 
 unfoldable pub netCounted : List Agent → Counts → Net → OfText Net
 netCounted ags c n =
-    cond (eqb (c .first) (length (n .face)) && eqb (c .second) (length (n .equations))) (tied ags n) (refused 11 1)
+    cond (eqb (c .upper) (length (n .face)) && eqb (c .lower) (length (n .equations))) (namesTwice ags n) (refused 11 1)
 
 unfoldable pub faceAndEqs : List Agent → Counts → List Line → OfText Net
 faceAndEqs ags c [] = refused 3 2

@@ -28,8 +28,10 @@ pub mod Walk
 pub mod SideWalk
 pub mod Numbering
 pub mod Ranged
+pub mod Mirror
 pub mod Turning
 pub mod Selves
+pub mod TwoSided
 pub mod Forward
 pub mod Rebuilding
 pub mod Respelt

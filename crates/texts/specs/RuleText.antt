@@ -13,16 +13,18 @@ use Rattle.texts.specs.Answers.{OfLine, fine, OfText, accepted, refused,
 use Rattle.texts.specs.Proofs.Reader.{termOf}
 
 -- 3: "wrong, missing or misplaced record; wrong field count; bad number". What a line is, before its terms are read.
+-- The header's two counts: of the upper part of the text (agents; the terms of `face`), and of the lower part (rules;
+-- equations).
 pub record Counts : Type 0 where
-  pub first : ℕ
-  pub second : ℕ
+  pub upper : ℕ
+  pub lower : ℕ
 
 unfoldable pub headerOf : Word → List Word → Option Counts
 headerOf w [] = none
 headerOf w (f ∷ []) = none
 headerOf w (f ∷ m ∷ []) = none
 headerOf w (f ∷ m ∷ n ∷ []) =
-    cond (same f w) (numberOf m >>= λ a. numberOf n >>= λ b. some (record { first = a; second = b })) none
+    cond (same f w) (numberOf m >>= λ a. numberOf n >>= λ b. some (record { upper = a; lower = b })) none
 headerOf w (f ∷ m ∷ n ∷ g ∷ gs) = none
 
 pub data Shape : Type 0 where
@@ -204,7 +206,7 @@ ruleLine b l = refuse 2 (fault2 l) (need 3 (shape b l) λ s. need 4 (recordOf s)
 -- [..] after all lines 11, on line 1": a header count differs from the records found.
 unfoldable pub counted : Counts → Book → OfText Book
 counted c b =
-    cond (eqb (c .first) (length (b .agents)) && eqb (c .second) (length (b .rules))) (accepted b) (refused 11 1)
+    cond (eqb (c .upper) (length (b .agents)) && eqb (c .lower) (length (b .rules))) (accepted b) (refused 11 1)
 
 unfoldable pub rulesOfLines : List Line → OfText Book
 rulesOfLines [] = refused 3 1

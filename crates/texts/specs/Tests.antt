@@ -45,10 +45,10 @@ module _ {S : Type 0} (step : S → Line → OfLine S) where
 
 -- The header's counts are those of the records found.
 unfoldable pub Counted : Counts → Book → Type 0
-Counted c b = (c .first ≡ length (b .agents)) × (c .second ≡ length (b .rules))
+Counted c b = (c .upper ≡ length (b .agents)) × (c .lower ≡ length (b .rules))
 
 unfoldable pub NetCounted : Counts → Net → Type 0
-NetCounted c n = (c .first ≡ length (n .face)) × (c .second ≡ length (n .equations))
+NetCounted c n = (c .upper ≡ length (n .face)) × (c .lower ≡ length (n .equations))
 
 -- The lines before hold no name that does not occur twice, and this one does.
 pub record LooseAt (ags : List Agent) (names : List Word) (tss : List (List Term)) (i : ℕ) : Type 0 where

@@ -16,23 +16,23 @@ size (cons t ts) = suc (size ts)
 
 -- A reader with no equations: names are only numbered, by first meeting.
 abbrev pub plain : ℕ → List Numbered → Reader
-plain k m = record { next = k; numbers = m; left = [] }
+plain k m = record { next = k; numbers = m; unmet = [] }
 
 -- While the names xs are still to be read: the two readers give the same numbers to the names that can still be met.
 pub record Along (xs : List ℕ) (S R : Reader) : Type 0 where
   pub next : S .next ≡ R .next
-  pub bare : R .left ≡ []
-  pub once : Once (S .left)
-  pub met : (x k : ℕ) → find x (S .numbers) ≡ known k → touches x (S .left) ≡ 0
-  pub agree : (z : ℕ) → 0 < count z xs + wired z (S .left) → find z (S .numbers) ≡ find z (R .numbers)
-  pub twice : (z : ℕ) → count z xs + wired z (S .left) ≤ 2
+  pub bare : R .unmet ≡ []
+  pub once : Once (S .unmet)
+  pub met : (x k : ℕ) → find x (S .numbers) ≡ known k → touches x (S .unmet) ≡ 0
+  pub agree : (z : ℕ) → 0 < count z xs + wired z (S .unmet) → find z (S .numbers) ≡ find z (R .numbers)
+  pub twice : (z : ℕ) → count z xs + wired z (S .unmet) ≤ 2
 
 -- A reader with no equations, at a name.
 pub plain-known : (x k : ℕ) (R : Reader) → find x (R .numbers) ≡ known k
     → read 0 (var x) R ≡ record { shown = var k; after = R }
-plain-known x k R e = ap (λ f. named (λ u Q. record { shown = var 0; after = Q }) x R f (pick x (R .left))) e
+plain-known x k R e = ap (λ f. named (λ u Q. record { shown = var 0; after = Q }) x R f (pick x (R .unmet))) e
 
-pub plain-new : (x : ℕ) (R : Reader) → find x (R .numbers) ≡ unknown → R .left ≡ []
+pub plain-new : (x : ℕ) (R : Reader) → find x (R .numbers) ≡ unknown → R .unmet ≡ []
     → read 0 (var x) R
     ≡ record {
       shown = var (R .next);
@@ -40,7 +40,7 @@ pub plain-new : (x : ℕ) (R : Reader) → find x (R .numbers) ≡ unknown → R
           record {
             next = suc (R .next);
             numbers = record { name = x; number = R .next } ∷ R .numbers;
-            left = R .left;
+            unmet = R .unmet;
           };
     }
 plain-new x R e b =

@@ -28,7 +28,7 @@ use Rattle.answers.specs.Proofs.TieSums.{tied-first, tied-second, same-a
 
 -- The equations that are left when the end is read.
 abbrev pub never-met : Conf → List Eqn
-never-met C = (pairs-read C) .after .left
+never-met C = (pairs-read C) .after .unmet
 
 -- How often a name is a side and how often it occurs within the agents of ties.
 touch-wired : (x : ℕ) (l : List Eqn) → touches x l + inner x l ≤ wired x l

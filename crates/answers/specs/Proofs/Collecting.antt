@@ -117,7 +117,7 @@ module _ (C : Conf) (v : Valid C) (o : Once (C .eqs)) where
   unfoldable pub collected : Collected C
   collected =
       record {
-        end = net (gathered .tree) ((face-read C) .after .left);
+        end = net (gathered .tree) ((face-read C) .after .unmet);
         way = gathered .made .reach top (all-allowed (C .face)) (λ z. omega (arith, few z));
         no-more =
             λ D c.

@@ -40,15 +40,15 @@ module _
       pub shown : q .shown ≡ p .shown
       pub along : Along rest (q .after) (p .after)
       pub fewer : (z : ℕ)
-          → count z (names tree) + wired z (q .after .left) ≤ count z (names t) + wired z (S .left)
-      pub shrinks : (z : ℕ) → touches z (q .after .left) ≤ touches z (S .left)
-      pub settled : (z : ℕ) → 0 < count z (names tree) → touches z (q .after .left) ≡ 0
-      pub kept : stuck (q .after .left) ∼ stuck (S .left)
+          → count z (names tree) + wired z (q .after .unmet) ≤ count z (names t) + wired z (S .unmet)
+      pub shrinks : (z : ℕ) → touches z (q .after .unmet) ≤ touches z (S .unmet)
+      pub settled : (z : ℕ) → 0 < count z (names tree) → touches z (q .after .unmet) ≡ 0
+      pub kept : stuck (q .after .unmet) ∼ stuck (S .unmet)
       pub long : size tree ≡ size t
       pub tops : Allowed ⊥ t → Allowed ⊥ tree
       pub reach : (c : Place s) → Allowed (Fit s c) t
-          → ((z : ℕ) → count z (names (plug c t)) + wired z (S .left) ≤ 2)
-          → Reach (plug c t) (S .left) (plug c tree) (q .after .left)
+          → ((z : ℕ) → count z (names (plug c t)) + wired z (S .unmet) ≤ 2)
+          → Reach (plug c t) (S .unmet) (plug c tree) (q .after .unmet)
 
     pub record Gathered (n : ℕ) {s : Sort} (t : Tree s) (S R : Reader) (rest : List ℕ) : Type 0 where
       pub tree : Tree s
@@ -63,7 +63,7 @@ module _
 
     abbrev Gathers : ℕ → ℕ → Type 0
     Gathers n b =
-        (t : Term) (S R : Reader) (rest : List ℕ) → length (S .left) < b → length (S .left) ≤ n
+        (t : Term) (S R : Reader) (rest : List ℕ) → length (S .unmet) < b → length (S .unmet) ≤ n
         → Along (names t ++ rest) S R
         → Gathered n t S R rest
 
@@ -79,18 +79,18 @@ module _
           fewer = λ z. omega arith;
           shrinks = λ z. omega arith;
           settled = λ z k. here z (ℕ-discrete z x) k;
-          kept = whole (stuck (S .left));
+          kept = whole (stuck (S .unmet));
           long = refl;
           tops = λ h. h;
-          reach = λ c o v. stay (plug c (var x)) (S .left);
+          reach = λ c o v. stay (plug c (var x)) (S .unmet);
         })
       where
-        here : (z : ℕ) → Dec (z ≡ x) → 0 < count z (x ∷ []) → touches z (S .left) ≡ 0
-        here z (yes q) k = ap (λ y. touches y (S .left)) q ∙ A .met x j e
+        here : (z : ℕ) → Dec (z ≡ x) → 0 < count z (x ∷ []) → touches z (S .unmet) ≡ 0
+        here z (yes q) k = ap (λ y. touches y (S .unmet)) q ∙ A .met x j e
         here z (no q) k = absurd (omega (arith, k, δ-other q))
 
     gather-alone : (x : ℕ) (S R : Reader) (rest : List ℕ) → Along (x ∷ rest) S R → find x (S .numbers) ≡ unknown
-        → touches x (S .left) ≡ 0
+        → touches x (S .unmet) ≡ 0
         → Made
         (var x)
         S
@@ -101,7 +101,7 @@ module _
               record {
                 next = suc (S .next);
                 numbers = record { name = x; number = S .next } ∷ S .numbers;
-                left = S .left;
+                unmet = S .unmet;
               };
         })
         (var x)
@@ -116,18 +116,18 @@ module _
           fewer = λ z. omega arith;
           shrinks = λ z. omega arith;
           settled = λ z k. here z (ℕ-discrete z x) k;
-          kept = whole (stuck (S .left));
+          kept = whole (stuck (S .unmet));
           long = refl;
           tops = λ h. h;
-          reach = λ c o v. stay (plug c (var x)) (S .left);
+          reach = λ c o v. stay (plug c (var x)) (S .unmet);
         })
       where
-        here : (z : ℕ) → Dec (z ≡ x) → 0 < count z (x ∷ []) → touches z (S .left) ≡ 0
-        here z (yes q) k = ap (λ y. touches y (S .left)) q ∙ i
+        here : (z : ℕ) → Dec (z ≡ x) → 0 < count z (x ∷ []) → touches z (S .unmet) ≡ 0
+        here z (yes q) k = ap (λ y. touches y (S .unmet)) q ∙ i
         here z (no q) k = absurd (omega (arith, k, δ-other q))
 
     gather-joined : (x y : ℕ) (r : List Eqn) (S R : Reader) (rest : List ℕ) → Along (x ∷ rest) S R
-        → find x (S .numbers) ≡ unknown → S .left ∼ (var x == var y) ∷ r
+        → find x (S .numbers) ≡ unknown → S .unmet ∼ (var x == var y) ∷ r
         → Made
         (var x)
         S
@@ -138,7 +138,7 @@ module _
               record {
                 next = suc (S .next);
                 numbers = record { name = x; number = S .next } ∷ record { name = y; number = S .next } ∷ S .numbers;
-                left = r;
+                unmet = r;
               };
         })
         (var y)
@@ -156,7 +156,7 @@ module _
           kept = back (stuck-∼ i);
           long = refl;
           tops = λ h. h;
-          reach = λ c o v. follow c o x (var y) (S .left) r i v;
+          reach = λ c o v. follow c o x (var y) (S .unmet) r i v;
         })
       where
         here : (z : ℕ) → Dec (z ≡ y) → 0 < count z (y ∷ []) → touches z r ≡ 0
@@ -164,10 +164,10 @@ module _
         here z (no q) k = absurd (omega (arith, k, δ-other q))
 
     gather-tied : (n x a : ℕ) (us : Terms) (r : List Eqn) (S R : Reader) (rest : List ℕ) → Along (x ∷ rest) S R
-        → S .left ∼ (var x == node a us) ∷ r
-        → (Along (names us ++ rest) (record { next = S .next; numbers = S .numbers; left = r }) R
-        → Gathered n (node a us) (record { next = S .next; numbers = S .numbers; left = r }) R rest)
-        → (tree : Term) × Made (var x) S rest (read n (node a us) (record { next = S .next; numbers = S .numbers; left = r })) tree (read 0 tree R)
+        → S .unmet ∼ (var x == node a us) ∷ r
+        → (Along (names us ++ rest) (record { next = S .next; numbers = S .numbers; unmet = r }) R
+        → Gathered n (node a us) (record { next = S .next; numbers = S .numbers; unmet = r }) R rest)
+        → (tree : Term) × Made (var x) S rest (read n (node a us) (record { next = S .next; numbers = S .numbers; unmet = r })) tree (read 0 tree R)
     gather-tied n x a us r S R rest A i h = (
       g .tree,
       record {
@@ -185,10 +185,10 @@ module _
             (plug c (var x))
             (plug c (node a us))
             (plug c (g .tree))
-            (S .left)
+            (S .unmet)
             r
-            ((read n (node a us) (record { next = S .next; numbers = S .numbers; left = r })) .after .left)
-            (follow c o x (node a us) (S .left) r i v)
+            ((read n (node a us) (record { next = S .next; numbers = S .numbers; unmet = r })) .after .unmet)
+            (follow c o x (node a us) (S .unmet) r i v)
             (g .made .reach c tt (λ z. omega (
               arith,
               v z,
@@ -199,25 +199,25 @@ module _
       },
     )
       where
-        g : Gathered n (node a us) (record { next = S .next; numbers = S .numbers; left = r }) R rest
+        g : Gathered n (node a us) (record { next = S .next; numbers = S .numbers; unmet = r }) R rest
         g = h (met-tied x a us r S R rest A i)
 
-    gather-name : (n b : ℕ) → Gathers n b → (x : ℕ) (S R : Reader) (rest : List ℕ) → length (S .left) ≤ b
-        → length (S .left) ≤ n
-        → Along (x ∷ rest) S R → (f : Found) → find x (S .numbers) ≡ f → (p : Pick) → PickIs x (S .left) p
+    gather-name : (n b : ℕ) → Gathers n b → (x : ℕ) (S R : Reader) (rest : List ℕ) → length (S .unmet) ≤ b
+        → length (S .unmet) ≤ n
+        → Along (x ∷ rest) S R → (f : Found) → find x (S .numbers) ≡ f → (p : Pick) → PickIs x (S .unmet) p
         → (tree : Term) × Made (var x) S rest (named (read n) x S f p) tree (read 0 tree R)
     gather-name n b h x S R rest l k A (known j) e p i = (var x, gather-known x j S R rest A e)
     gather-name n b h x S R rest l k A unknown e alone i = (var x, gather-alone x S R rest A e i)
     gather-name n b h x S R rest l k A unknown e (beside (var y) r) i = (var y, gather-joined x y r S R rest A e i)
     gather-name n b h x S R rest l k A unknown e (beside (node a us) r) i =
         gather-tied n x a us r S R rest A i
-        (h (node a us) (record { next = S .next; numbers = S .numbers; left = r }) R rest (omega (arith, l, perm-length i)) (omega (arith, k, perm-length i)))
+        (h (node a us) (record { next = S .next; numbers = S .numbers; unmet = r }) R rest (omega (arith, l, perm-length i)) (omega (arith, k, perm-length i)))
 
     gather-tree : (n b : ℕ) → Gathers n b → {s : Sort} (t : Tree s) (S R : Reader) (rest : List ℕ)
-        → length (S .left) ≤ b
-        → length (S .left) ≤ n → Along (names t ++ rest) S R → Gathered n t S R rest
+        → length (S .unmet) ≤ b
+        → length (S .unmet) ≤ n → Along (names t ++ rest) S R → Gathered n t S R rest
     gather-tree n b h (var x) S R rest l k A =
-        let g = gather-name n b h x S R rest l k A (find x (S .numbers)) refl (pick x (S .left)) (pick-is x (S .left)) in
+        let g = gather-name n b h x S R rest l k A (find x (S .numbers)) refl (pick x (S .unmet)) (pick-is x (S .unmet)) in
         record {
           tree = g .0;
           made = subst (λ q. Made (var x) S rest q (g .0) (read 0 (g .0) R)) (sym (read-name n x S k)) (g .1);
@@ -261,10 +261,10 @@ module _
                 fewer = λ z. omega arith;
                 shrinks = λ z. omega arith;
                 settled = λ z q. absurd (omega (arith, q));
-                kept = whole (stuck (S .left));
+                kept = whole (stuck (S .unmet));
                 long = refl;
                 tops = λ h. tt;
-                reach = λ c o v. stay (plug c nil) (S .left);
+                reach = λ c o v. stay (plug c nil) (S .unmet);
               });
         }
     gather-tree n b h (cons t ts) S R rest l k A =
@@ -316,9 +316,9 @@ module _
                         (plug c (cons t ts))
                         (plug c (cons (g .tree) ts))
                         (plug c (cons (g .tree) (f .tree)))
-                        (S .left)
-                        ((read n t S) .after .left)
-                        ((read n ts ((read n t S) .after)) .after .left)
+                        (S .unmet)
+                        ((read n t S) .after .unmet)
+                        ((read n ts ((read n t S) .after)) .after .unmet)
                         (g .made .reach (head ts c) (map-allowed (Fit many c) (Fit one (head ts c)) (fit-head ts c) t (o .0)) v)
                         (f .made .reach
                         (tail (g .tree) c)
@@ -334,7 +334,7 @@ module _
             }
           where
             here : (z : ℕ) → Dec (0 < count z (names (g .tree))) → 0 < count z (names (g .tree) ++ names (f .tree))
-                → touches z ((read n ts ((read n t S) .after)) .after .left) ≡ 0
+                → touches z ((read n ts ((read n t S) .after)) .after .unmet) ≡ 0
             here z (yes p) q = omega (arith, g .made .settled z p, f .made .shrinks z)
             here z (no p) q = f .made .settled z (omega (
               arith,
@@ -347,6 +347,6 @@ module _
     gathers n zero t S R rest l k A = absurd (omega (arith, l))
     gathers n (suc b) t S R rest l k A = gather-tree n b (gathers n b) t S R rest (omega (arith, l)) k A
 
-    pub gather : (n : ℕ) {s : Sort} (t : Tree s) (S R : Reader) (rest : List ℕ) → length (S .left) ≤ n
+    pub gather : (n : ℕ) {s : Sort} (t : Tree s) (S R : Reader) (rest : List ℕ) → length (S .unmet) ≤ n
         → Along (names t ++ rest) S R → Gathered n t S R rest
     gather n t S R rest k A = gather-tree n n (gathers n n) t S R rest k k A

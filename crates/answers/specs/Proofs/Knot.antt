@@ -65,12 +65,12 @@ drain-append n xs ys l k = parts n (suc n) xs ys l (omega (arith, k)) k
 
 -- A name that has a number is in no equation left.
 pub record Fine (S : Reader) : Type 0 where
-  pub once : Once (S .left)
-  pub met : (x k : ℕ) → find x (S .numbers) ≡ known k → touches x (S .left) ≡ 0
+  pub once : Once (S .unmet)
+  pub met : (x k : ℕ) → find x (S .numbers) ≡ known k → touches x (S .unmet) ≡ 0
 
 -- What a reading leaves is what following the names leaves.
 pub record Left (n : ℕ) (xs : List ℕ) (S R : Reader) : Type 0 where
-  pub left : R .left ≡ drain n xs (S .left)
+  pub unmet : R .unmet ≡ drain n xs (S .unmet)
   pub fine : Fine R
 
 pub unmet : {k : ℕ} → unknown ≡ known k → ⊥
@@ -88,23 +88,23 @@ found-more e l m h f z k g = go (ℕ-discrete z (e .name))
     go (yes p) = ap (λ y. touches y m) p ∙ h
     go (no q) = f z k (sym (if-no (known (e .number)) (find z l) q) ∙ g)
 
-module _ (n : ℕ) (tied : Term → Reader → Reading one) (h : (t : Term) (S : Reader) → length (S .left) < n → Fine S → Left n (names t) S ((tied t S) .after)) where
-  named-left : (x : ℕ) (S : Reader) → length (S .left) ≤ n → Fine S → (f : Found) → find x (S .numbers) ≡ f
-      → (p : Pick) → pick x (S .left) ≡ p
-      → PickIs x (S .left) p → Left n (x ∷ []) S ((named tied x S f p) .after)
-  named-left x S k s (known j) g p e i = record { left = sym (drain-none n (S .left)) ∙ sym (drain-alone n x [] (S .left) (s .met x j g)); fine = s }
+module _ (n : ℕ) (tied : Term → Reader → Reading one) (h : (t : Term) (S : Reader) → length (S .unmet) < n → Fine S → Left n (names t) S ((tied t S) .after)) where
+  named-left : (x : ℕ) (S : Reader) → length (S .unmet) ≤ n → Fine S → (f : Found) → find x (S .numbers) ≡ f
+      → (p : Pick) → pick x (S .unmet) ≡ p
+      → PickIs x (S .unmet) p → Left n (x ∷ []) S ((named tied x S f p) .after)
+  named-left x S k s (known j) g p e i = record { unmet = sym (drain-none n (S .unmet)) ∙ sym (drain-alone n x [] (S .unmet) (s .met x j g)); fine = s }
   named-left x S k s unknown g alone e i =
       record {
-        left = sym (drain-none n (S .left)) ∙ sym (drain-alone n x [] (S .left) i);
+        unmet = sym (drain-none n (S .unmet)) ∙ sym (drain-alone n x [] (S .unmet) i);
         fine =
             record {
               once = s .once;
-              met = found-more (record { name = x; number = S .next }) (S .numbers) (S .left) i (s .met);
+              met = found-more (record { name = x; number = S .next }) (S .numbers) (S .unmet) i (s .met);
             };
       }
   named-left x S k s unknown g (beside (var y) r) e i =
       record {
-        left = sym (drain-none n r) ∙ sym (drain-alone n y [] r y-not) ∙ sym (drain-tie n x [] (S .left) (var y) r e k);
+        unmet = sym (drain-none n r) ∙ sym (drain-alone n y [] r y-not) ∙ sym (drain-tie n x [] (S .unmet) (var y) r e k);
         fine =
             record {
               once = rest-once i (s .once);
@@ -129,28 +129,28 @@ module _ (n : ℕ) (tied : Term → Reader → Reading one) (h : (t : Term) (S :
       let q =
       h
       (node a ts)
-      (record { next = S .next; numbers = S .numbers; left = r })
+      (record { next = S .next; numbers = S .numbers; unmet = r })
       (omega (arith, k, perm-length i))
       (record { once = rest-once i (s .once); met = λ z j q. omega (arith, s .met z j q, touches-∼ z i) }) in
       record {
-        left =
-            q .left ∙ ap (λ zs. drain n zs r) (sym (append-nil (names ts))) ∙ sym (drain-tie n x [] (S .left) (node a ts) r e k);
+        unmet =
+            q .unmet ∙ ap (λ zs. drain n zs r) (sym (append-nil (names ts))) ∙ sym (drain-tie n x [] (S .unmet) (node a ts) r e k);
         fine = q .fine;
       }
 
-  read-by-left : {s : Sort} (t : Tree s) (S : Reader) → length (S .left) ≤ n → Fine S
+  read-by-left : {s : Sort} (t : Tree s) (S : Reader) → length (S .unmet) ≤ n → Fine S
       → Left n (names t) S ((read-by tied t S) .after)
   read-by-left (var x) S k s =
-      named-left x S k s (find x (S .numbers)) refl (pick x (S .left)) refl (pick-is x (S .left))
+      named-left x S k s (find x (S .numbers)) refl (pick x (S .unmet)) refl (pick-is x (S .unmet))
   read-by-left (node a ts) S k s = read-by-left ts S k s
-  read-by-left nil S k s = record { left = sym (drain-none n (S .left)); fine = s }
+  read-by-left nil S k s = record { unmet = sym (drain-none n (S .unmet)); fine = s }
   read-by-left (cons t ts) S k s =
       let r = read-by-left t S k s in
-      let w = drain-within n (names t) (S .left) in
-      let q = read-by-left ts ((read-by tied t S) .after) (omega (arith, k, w .0, ap length (r .left))) (r .fine) in
-      record { left = q .left ∙ ap (drain n (names ts)) (r .left) ∙ sym (drain-append n (names t) (names ts) (S .left) k); fine = q .fine }
+      let w = drain-within n (names t) (S .unmet) in
+      let q = read-by-left ts ((read-by tied t S) .after) (omega (arith, k, w .0, ap length (r .unmet))) (r .fine) in
+      record { unmet = q .unmet ∙ ap (drain n (names ts)) (r .unmet) ∙ sym (drain-append n (names t) (names ts) (S .unmet) k); fine = q .fine }
 
-pub read-left : (n : ℕ) {s : Sort} (t : Tree s) (S : Reader) → length (S .left) ≤ n → Fine S
+pub read-left : (n : ℕ) {s : Sort} (t : Tree s) (S : Reader) → length (S .unmet) ≤ n → Fine S
     → Left n (names t) S ((read n t S) .after)
 read-left zero t S k s = read-by-left 0 (λ u R. record { shown = var 0; after = R }) (λ u R a f. absurd (omega (arith, a))) t S k s
 read-left (suc n) t S k s =
@@ -159,7 +159,7 @@ read-left (suc n) t S k s =
     (read n)
     (λ u R a f.
     let q = read-left n u R (omega (arith, a)) f in
-    record { left = q .left ∙ drain-enough n (suc n) (names u) (R .left) (omega (arith, a)) (omega (arith, a)); fine = q .fine })
+    record { unmet = q .unmet ∙ drain-enough n (suc n) (names u) (R .unmet) (omega (arith, a)) (omega (arith, a)); fine = q .fine })
     t
     S
     k
@@ -195,14 +195,14 @@ sides-reordered {l} {m} p =
 
 -- The equations never met, by the names that are followed.
 pub left-over : (C : Conf) → Once (C .eqs)
-    → (pairs-read C) .after .left ≡ drain (length (C .eqs)) (names (sides (stuck (C .eqs)))) (drain (length (C .eqs)) (names (C .face)) (C .eqs))
+    → (pairs-read C) .after .unmet ≡ drain (length (C .eqs)) (names (sides (stuck (C .eqs)))) (drain (length (C .eqs)) (names (C .face)) (C .eqs))
 left-over C o =
     let n = length (C .eqs) in
     let f = read-left n (C .face) (start C) (omega arith) (record { once = o; met = λ x k e. absurd (unmet e) }) in
     let w = drain-within n (names (C .face)) (C .eqs) in
     let p =
-    read-left n (sides (stuck (C .eqs))) ((face-read C) .after) (omega (arith, w .0, ap length (f .left))) (f .fine) in
-    p .left ∙ ap (drain n (names (sides (stuck (C .eqs))))) (f .left)
+    read-left n (sides (stuck (C .eqs))) ((face-read C) .after) (omega (arith, w .0, ap length (f .unmet))) (f .fine) in
+    p .unmet ∙ ap (drain n (names (sides (stuck (C .eqs))))) (f .unmet)
 
 pub knot-alike : {C D : Conf} → C .face ≡ D .face → C .eqs ∼ D .eqs → Once (C .eqs)
     → (answer C) .knot ≡ (answer D) .knot

@@ -26,32 +26,32 @@ met-known x S R rest A =
     }
 
 -- A name that no equation touches gets the next number.
-pub met-alone : (x : ℕ) (S R : Reader) (rest : List ℕ) → Along (x ∷ rest) S R → touches x (S .left) ≡ 0
+pub met-alone : (x : ℕ) (S R : Reader) (rest : List ℕ) → Along (x ∷ rest) S R → touches x (S .unmet) ≡ 0
     → Along
     rest
     (record {
       next = suc (S .next);
       numbers = record { name = x; number = S .next } ∷ S .numbers;
-      left = S .left;
+      unmet = S .unmet;
     })
     (record {
       next = suc (R .next);
       numbers = record { name = x; number = R .next } ∷ R .numbers;
-      left = R .left;
+      unmet = R .unmet;
     })
 met-alone x S R rest A i =
     record {
       next = ap suc (A .next);
       bare = A .bare;
       once = A .once;
-      met = found-more (record { name = x; number = S .next }) (S .numbers) (S .left) i (A .met);
+      met = found-more (record { name = x; number = S .next }) (S .numbers) (S .unmet) i (A .met);
       agree =
           λ z k. one-more z x (S .next) (R .next) (S .numbers) (R .numbers) (A .next) (A .agree z (omega (arith, k)));
       twice = λ z. omega (arith, A .twice z);
     }
 
 -- A name joined to another: both get the next number, and their equation is used.
-module _ (x y : ℕ) (r : List Eqn) (S R : Reader) (rest : List ℕ) (A : Along (x ∷ rest) S R) (i : S .left ∼ (var x == var y) ∷ r) where
+module _ (x y : ℕ) (r : List Eqn) (S R : Reader) (rest : List ℕ) (A : Along (x ∷ rest) S R) (i : S .unmet ∼ (var x == var y) ∷ r) where
   pub joined-free : touches y r ≡ 0
   joined-free = omega (arith, A .once y, touches-∼ y i, δ-same y)
 
@@ -70,12 +70,12 @@ module _ (x y : ℕ) (r : List Eqn) (S R : Reader) (rest : List ℕ) (A : Along 
       (record {
         next = suc (S .next);
         numbers = record { name = x; number = S .next } ∷ record { name = y; number = S .next } ∷ S .numbers;
-        left = r;
+        unmet = r;
       })
       (record {
         next = suc (R .next);
         numbers = record { name = y; number = R .next } ∷ R .numbers;
-        left = R .left;
+        unmet = R .unmet;
       })
   met-joined =
       record {
@@ -106,11 +106,11 @@ module _ (x y : ℕ) (r : List Eqn) (S R : Reader) (rest : List ℕ) (A : Along 
       }
 
 -- A name tied to a node: the node is read in its place, and their equation is used.
-module _ (x a : ℕ) (us : Terms) (r : List Eqn) (S R : Reader) (rest : List ℕ) (A : Along (x ∷ rest) S R) (i : S .left ∼ (var x == node a us) ∷ r) where
-  pub tied-wired : (z : ℕ) → wired z (S .left) ≡ δ z x + count z (names us) + wired z r
+module _ (x a : ℕ) (us : Terms) (r : List Eqn) (S R : Reader) (rest : List ℕ) (A : Along (x ∷ rest) S R) (i : S .unmet ∼ (var x == node a us) ∷ r) where
+  pub tied-wired : (z : ℕ) → wired z (S .unmet) ≡ δ z x + count z (names us) + wired z r
   tied-wired z = omega (arith, wired-∼ z i)
 
-  pub met-tied : Along (names us ++ rest) (record { next = S .next; numbers = S .numbers; left = r }) R
+  pub met-tied : Along (names us ++ rest) (record { next = S .next; numbers = S .numbers; unmet = r }) R
   met-tied =
       record {
         next = A .next;

@@ -44,7 +44,7 @@ abbrev pub number-to : Renaming → Numbered → Numbered
 number-to π e = record { name = π .to (e .name); number = e .number }
 
 abbrev pub state-to : Renaming → Reader → Reader
-state-to π S = record { next = S .next; numbers = map (number-to π) (S .numbers); left = eqs-to π (S .left) }
+state-to π S = record { next = S .next; numbers = map (number-to π) (S .numbers); unmet = eqs-to π (S .unmet) }
 
 abbrev pub reading-to : Renaming → {s : Sort} → Reading s → Reading s
 reading-to π r = record { shown = r .shown; after = state-to π (r .after) }
@@ -85,14 +85,14 @@ named-rename : (π : Renaming) (tied : Term → Reader → Reading one) → Equi
 named-rename π tied h x S (known k) p = refl
 named-rename π tied h x S unknown alone = refl
 named-rename π tied h x S unknown (beside (var y) l) = refl
-named-rename π tied h x S unknown (beside (node a ts) l) = h (node a ts) (record { next = S .next; numbers = S .numbers; left = l })
+named-rename π tied h x S unknown (beside (node a ts) l) = h (node a ts) (record { next = S .next; numbers = S .numbers; unmet = l })
 
 read-by-rename : (π : Renaming) (tied : Term → Reader → Reading one) → Equivariant π tied
     → {s : Sort} (t : Tree s) (S : Reader)
     → read-by tied (sub (ren (π .to)) t) (state-to π S) ≡ reading-to π (read-by tied t S)
 read-by-rename π tied h (var x) S =
-    ap₂ (named tied (π .to x) (state-to π S)) (find-rename π x (S .numbers)) (pick-rename π x (S .left))
-    ∙ named-rename π tied h x S (find x (S .numbers)) (pick x (S .left))
+    ap₂ (named tied (π .to x) (state-to π S)) (find-rename π x (S .numbers)) (pick-rename π x (S .unmet))
+    ∙ named-rename π tied h x S (find x (S .numbers)) (pick x (S .unmet))
 read-by-rename π tied h (node a ts) S = ap (agent a) (read-by-rename π tied h ts S)
 read-by-rename π tied h nil S = refl
 read-by-rename π tied h (cons t ts) S =
@@ -169,13 +169,13 @@ pairs-rename π C =
 pub answer-rename : (π : Renaming) (C : Conf) → answer (rename (π .to) C) ≡ answer C
 answer-rename π C =
     ap₂
-    (λ (f p : Terms). record { face = f; pairs = p; stuck = length (stuck (eqs-to π (C .eqs))); loops = loops (eqs-to π (C .eqs)); knot = tied-agents ((pairs-read (rename (π .to) C)) .after .left) })
+    (λ (f p : Terms). record { face = f; pairs = p; stuck = length (stuck (eqs-to π (C .eqs))); loops = loops (eqs-to π (C .eqs)); knot = tied-agents ((pairs-read (rename (π .to) C)) .after .unmet) })
     (ap (λ r. r .shown) (face-rename π C))
     (ap (λ r. r .shown) (pairs-rename π C))
     ∙ ap₂
-    (λ (s l : ℕ). record { face = (face-read C) .shown; pairs = (pairs-read C) .shown; stuck = s; loops = l; knot = tied-agents ((pairs-read (rename (π .to) C)) .after .left) })
+    (λ (s l : ℕ). record { face = (face-read C) .shown; pairs = (pairs-read C) .shown; stuck = s; loops = l; knot = tied-agents ((pairs-read (rename (π .to) C)) .after .unmet) })
     (ap length (stuck-rename π (C .eqs)) ∙ length-rename π (stuck (C .eqs)))
     (loops-rename π (C .eqs))
     ∙ ap
     (λ (k : ℕ). record { face = (face-read C) .shown; pairs = (pairs-read C) .shown; stuck = length (stuck (C .eqs)); loops = loops (C .eqs); knot = k })
-    (ap (λ r. tied-agents (r .after .left)) (pairs-rename π C) ∙ tied-agents-rename π ((pairs-read C) .after .left))
+    (ap (λ r. tied-agents (r .after .unmet)) (pairs-rename π C) ∙ tied-agents-rename π ((pairs-read C) .after .unmet))

@@ -137,8 +137,8 @@ var-node e = subst IsName e tt
 pub record Alike (S R : Reader) : Type 0 where
   pub next : S .next ≡ R .next
   pub numbers : S .numbers ≡ R .numbers
-  pub left : S .left ∼ R .left
-  pub once : (x : ℕ) → touches x (S .left) ≤ 1
+  pub unmet : S .unmet ∼ R .unmet
+  pub once : (x : ℕ) → touches x (S .unmet) ≤ 1
 
 pub record ReadAlike {s : Sort} (r q : Reading s) : Type 0 where
   pub shown : r .shown ≡ q .shown
@@ -153,7 +153,7 @@ rest-once p h z = omega (arith, touches-∼ z p, h z)
 
 named-alike : (tied : Term → Reader → Reading one) → TiedAlike tied → (x : ℕ) (S R : Reader) → Alike S R
     → (f : Found) (p q : Pick) → PickAlike p q
-    → PickIs x (S .left) p → ReadAlike (named tied x S f p) (named tied x R f q)
+    → PickIs x (S .unmet) p → ReadAlike (named tied x S f p) (named tied x R f q)
 named-alike tied h x S R a (known k) p q e i = record { shown = refl; after = a }
 named-alike tied h x S R a unknown alone alone e i =
     record {
@@ -162,7 +162,7 @@ named-alike tied h x S R a unknown alone alone e i =
           record {
             next = ap suc (a .next);
             numbers = ap₂ (λ n l. record { name = x; number = n } ∷ l) (a .next) (a .numbers);
-            left = a .left;
+            unmet = a .unmet;
             once = a .once;
           };
     }
@@ -180,7 +180,7 @@ named-alike tied h x S R a unknown (beside (var y) l) (beside (var z) m) e i =
                 (a .next)
                 (a .numbers)
                 ∙ ap (λ v. record { name = x; number = R .next } ∷ record { name = name-of v; number = R .next } ∷ R .numbers) (e .0);
-            left = e .1;
+            unmet = e .1;
             once = rest-once i (a .once);
           };
     }
@@ -191,9 +191,9 @@ named-alike tied h x S R a unknown (beside (node b us) l) (beside (node c vs) m)
     (← e .0)
     (h
     (node b us)
-    (record { next = S .next; numbers = S .numbers; left = l })
-    (record { next = R .next; numbers = R .numbers; left = m })
-    (record { next = a .next; numbers = a .numbers; left = e .1; once = rest-once i (a .once) }))
+    (record { next = S .next; numbers = S .numbers; unmet = l })
+    (record { next = R .next; numbers = R .numbers; unmet = m })
+    (record { next = a .next; numbers = a .numbers; unmet = e .1; once = rest-once i (a .once) }))
 
 read-by-alike : (tied : Term → Reader → Reading one) → TiedAlike tied → {s : Sort} (t : Tree s) (S R : Reader)
     → Alike S R
@@ -209,10 +209,10 @@ read-by-alike tied h (var x) S R a =
     R
     a
     (find x (S .numbers))
-    (pick x (S .left))
-    (pick x (R .left))
-    (pick-∼ x (a .left) (a .once x))
-    (pick-is x (S .left)))
+    (pick x (S .unmet))
+    (pick x (R .unmet))
+    (pick-∼ x (a .unmet) (a .once x))
+    (pick-is x (S .unmet)))
 read-by-alike tied h (node b ts) S R a =
     let r = read-by-alike tied h ts S R a in
     record { shown = ap (node b) (r .shown); after = r .after }

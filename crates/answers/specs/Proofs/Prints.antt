@@ -59,10 +59,10 @@ Fits mem b (beside t r) = Match mem b t
 -- While the printer is at the names xs: each name occurs twice at most, in these and in the ties and joins left; a
 -- name of these or within an agent, if it has no number, has the bond that the equations left give it.
 pub record Faithful (mem : ℕ → Cell) (bonds : ℕ → Bond) (S : Reader) (xs : List ℕ) : Type 0 where
-  pub once : Once (S .left)
-  pub twice : (x : ℕ) → count x xs + wired x (S .left) ≤ 2
-  pub fits : (x : ℕ) → 0 < count x xs + inner x (S .left) → find x (S .numbers) ≡ unknown
-      → Fits mem (bonds x) (pick x (S .left))
+  pub once : Once (S .unmet)
+  pub twice : (x : ℕ) → count x xs + wired x (S .unmet) ≤ 2
+  pub fits : (x : ℕ) → 0 < count x xs + inner x (S .unmet) → find x (S .numbers) ≡ unknown
+      → Fits mem (bonds x) (pick x (S .unmet))
 
 known-not : {k : ℕ} → known k ≡ unknown → ⊥
 known-not e = subst IsKnown e tt
@@ -104,15 +104,15 @@ module _ (mem : ℕ → Cell) (bonds : ℕ → Bond) (n : ℕ) where
   abbrev CellShows : ℕ → Type 0
   CellShows m =
       (c : ℕ) (us : Terms) (ds : List ℕ) → Reads mem ((mem c) .args) us ds → (S : Reader) (rest : List ℕ)
-      → length (S .left) ≤ n
-      → suc (agents us) + tied-agents (S .left) ≤ m
+      → length (S .unmet) ≤ n
+      → suc (agents us) + tied-agents (S .unmet) ≤ m
       → Faithful mem bonds S (names us ++ rest)
       → Shows (cell-printed mem bonds m c (printer S)) (read n (node ((mem c) .symbol) us) S) rest
 
-  name-shows : (m : ℕ) → CellShows m → (x : ℕ) (S : Reader) (rest : List ℕ) → length (S .left) ≤ n
-      → tied-agents (S .left) ≤ m
+  name-shows : (m : ℕ) → CellShows m → (x : ℕ) (S : Reader) (rest : List ℕ) → length (S .unmet) ≤ n
+      → tied-agents (S .unmet) ≤ m
       → Faithful mem bonds S (x ∷ rest)
-      → (f : Found) → find x (S .numbers) ≡ f → (p : Pick) → PickIs x (S .left) p → (b : Bond)
+      → (f : Found) → find x (S .numbers) ≡ f → (p : Pick) → PickIs x (S .unmet) p → (b : Bond)
       → (f ≡ unknown → Fits mem b p)
       → Shows (name-printed (cell-printed mem bonds m) x (printer S) f b) (named (read n) x S f p) rest
   name-shows m h x S rest k a F (known j) g p i b v =
@@ -164,7 +164,7 @@ module _ (mem : ℕ → Cell) (bonds : ℕ → Bond) (n : ℕ) where
       }
   name-shows m h x S rest k a F unknown g (beside (node s us) r) i b v =
       let w = v refl in
-      let S′ : Reader = record { next = S .next; numbers = S .numbers; left = r } in
+      let S′ : Reader = record { next = S .next; numbers = S .numbers; unmet = r } in
       let q = h (w .c) us (w .ds) (w .reads) S′ rest (omega (arith, k, perm-length i)) (omega (arith, a, tied-agents-∼ i)) (further i) in
       record {
         same =
@@ -174,8 +174,8 @@ module _ (mem : ℕ → Cell) (bonds : ℕ → Bond) (n : ℕ) where
         faithful = subst (λ d. Faithful mem bonds ((read n (node d us) S′) .after) rest) (w .symbol) (q .faithful);
       }
     where
-      further : S .left ∼ (var x == node s us) ∷ r
-          → Faithful mem bonds (record { next = S .next; numbers = S .numbers; left = r }) (names us ++ rest)
+      further : S .unmet ∼ (var x == node s us) ∷ r
+          → Faithful mem bonds (record { next = S .next; numbers = S .numbers; unmet = r }) (names us ++ rest)
       further i =
           record {
             once = rest-once i (F .once);
@@ -221,8 +221,8 @@ module _ (mem : ℕ → Cell) (bonds : ℕ → Bond) (n : ℕ) where
 
   sides-shows : (m : ℕ) → CellShows m → {ss : List Side} {ts : Terms} {cs : List ℕ} → Reads mem ss ts cs
       → (S : Reader) (rest : List ℕ)
-      → length (S .left) ≤ n
-      → agents ts + tied-agents (S .left) ≤ m
+      → length (S .unmet) ≤ n
+      → agents ts + tied-agents (S .unmet) ≤ m
       → Faithful mem bonds S (names ts ++ rest)
       → Shows (sides-printed bonds (cell-printed mem bonds m) ss (printer S)) (read n ts S) rest
   sides-shows m h Reads.none S rest k a F =
@@ -244,8 +244,8 @@ module _ (mem : ℕ → Cell) (bonds : ℕ → Bond) (n : ℕ) where
       F
       (find x (S .numbers))
       refl
-      (pick x (S .left))
-      (pick-is x (S .left))
+      (pick x (S .unmet))
+      (pick-is x (S .unmet))
       (bonds x)
       (λ e. F .fits x (omega (arith, δ-same x)) e)) in
       after-first
@@ -297,8 +297,8 @@ module _ (mem : ℕ → Cell) (bonds : ℕ → Bond) (n : ℕ) where
 
   -- Some sides, printed with room for as many cells one within another as there are agents, show what the net shows of the terms that they are.
   pub prints : (m : ℕ) {ss : List Side} {ts : Terms} {cs : List ℕ} → Reads mem ss ts cs → (S : Reader) (rest : List ℕ)
-      → length (S .left) ≤ n
-      → agents ts + tied-agents (S .left) ≤ m
+      → length (S .unmet) ≤ n
+      → agents ts + tied-agents (S .unmet) ≤ m
       → Faithful mem bonds S (names ts ++ rest)
       → Shows (sides-printed bonds (cell-printed mem bonds m) ss (printer S)) (read n ts S) rest
   prints m q S rest k a F = sides-shows m (cell-shows m) q S rest k a F

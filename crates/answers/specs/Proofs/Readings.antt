@@ -24,11 +24,11 @@ pub read-nil : (n : ℕ) (S : Reader) → read n nil S ≡ record { shown = nil;
 read-nil zero S = refl
 read-nil (suc n) S = refl
 
-pub read-name : (n x : ℕ) (S : Reader) → length (S .left) ≤ n
-    → read n (var x) S ≡ named (read n) x S (find x (S .numbers)) (pick x (S .left))
+pub read-name : (n x : ℕ) (S : Reader) → length (S .unmet) ≤ n
+    → read n (var x) S ≡ named (read n) x S (find x (S .numbers)) (pick x (S .unmet))
 read-name n x S b = go n b
   where
-    same : (n : ℕ) → length (S .left) ≤ suc n → (f : Found) (p : Pick) → PickIs x (S .left) p
+    same : (n : ℕ) → length (S .unmet) ≤ suc n → (f : Found) (p : Pick) → PickIs x (S .unmet) p
         → named (read n) x S f p ≡ named (read (suc n)) x S f p
     same n b (known k) p i = refl
     same n b unknown alone i = refl
@@ -38,16 +38,16 @@ read-name n x S b = go n b
         n
         (suc n)
         (node a ts)
-        (record { next = S .next; numbers = S .numbers; left = r })
+        (record { next = S .next; numbers = S .numbers; unmet = r })
         (omega (arith, b, perm-length i))
         (omega (arith, b, perm-length i))
 
-    none-left : length (S .left) ≤ 0 → (f : Found) (p : Pick) → PickIs x (S .left) p
+    none-left : length (S .unmet) ≤ 0 → (f : Found) (p : Pick) → PickIs x (S .unmet) p
         → named (λ u R. record { shown = var 0; after = R }) x S f p ≡ named (read 0) x S f p
     none-left b (known k) p i = refl
     none-left b unknown alone i = refl
     none-left b unknown (beside t r) i = absurd (omega (arith, b, perm-length i))
 
-    go : (n : ℕ) → length (S .left) ≤ n → read n (var x) S ≡ named (read n) x S (find x (S .numbers)) (pick x (S .left))
-    go zero b = none-left b (find x (S .numbers)) (pick x (S .left)) (pick-is x (S .left))
-    go (suc n) b = same n b (find x (S .numbers)) (pick x (S .left)) (pick-is x (S .left))
+    go : (n : ℕ) → length (S .unmet) ≤ n → read n (var x) S ≡ named (read n) x S (find x (S .numbers)) (pick x (S .unmet))
+    go zero b = none-left b (find x (S .numbers)) (pick x (S .unmet)) (pick-is x (S .unmet))
+    go (suc n) b = same n b (find x (S .numbers)) (pick x (S .unmet)) (pick-is x (S .unmet))

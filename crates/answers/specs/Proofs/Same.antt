@@ -53,7 +53,7 @@ once {B} {C} h x = go (decLt 1 (touches x (C .eqs)))
 
 module _ {C D : Conf} (face : C .face ≡ D .face) (eqs : C .eqs ∼ D .eqs) (settled : (x : ℕ) → touches x (C .eqs) ≤ 1) where
   starts : Alike (start C) (start D)
-  starts = record { next = refl; numbers = refl; left = eqs; once = settled }
+  starts = record { next = refl; numbers = refl; unmet = eqs; once = settled }
 
   pub face-alike : ReadAlike (face-read C) (face-read D)
   face-alike =
@@ -95,16 +95,16 @@ pub one-answer : {B : Book} {C D : Conf} → Normal (Step B) D → (h : C ≈ D)
 one-answer {C = C} {D = D} n h e =
     renamed
     ∙ ap₂
-    (λ (f p : Terms). record { face = f; pairs = p; stuck = length (stuck (E .eqs)); loops = loops (E .eqs); knot = tied-agents ((pairs-read E) .after .left) })
+    (λ (f p : Terms). record { face = f; pairs = p; stuck = length (stuck (E .eqs)); loops = loops (E .eqs); knot = tied-agents ((pairs-read E) .after .unmet) })
     ((face-alike {C = E} (h .face) (h .eqs) settled) .shown)
     (pairs .shown)
     ∙ ap₂
-    (λ (s l : ℕ). record { face = (face-read D) .shown; pairs = (pairs-read D) .shown; stuck = s; loops = l; knot = tied-agents ((pairs-read E) .after .left) })
+    (λ (s l : ℕ). record { face = (face-read D) .shown; pairs = (pairs-read D) .shown; stuck = s; loops = l; knot = tied-agents ((pairs-read E) .after .unmet) })
     (perm-length (stuck-∼ (h .eqs)))
     (loops-∼ (h .eqs))
     ∙ ap
     (λ (k : ℕ). record { face = (face-read D) .shown; pairs = (pairs-read D) .shown; stuck = length (stuck (D .eqs)); loops = loops (D .eqs); knot = k })
-    (tied-agents-∼ (pairs .after .left))
+    (tied-agents-∼ (pairs .after .unmet))
   where
     E : Conf
     E = rename (h .names-by .to) C

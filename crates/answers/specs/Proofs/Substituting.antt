@@ -203,7 +203,7 @@ module _ (C : Conf) (v : Valid C) (o : Once (C .eqs)) where
 
   -- What is left after the interface.
   abbrev L : List Eqn
-  L = (face-read C) .after .left
+  L = (face-read C) .after .unmet
 
   second : Gathered
       (Reach F)
@@ -241,7 +241,7 @@ module _ (C : Conf) (v : Valid C) (o : Once (C .eqs)) where
   K = paired (second .tree)
 
   abbrev rest : List Eqn
-  rest = ties ((pairs-read C) .after .left)
+  rest = ties ((pairs-read C) .after .unmet)
 
   way : Substitutes (net F (paired pairs ++ ties L)) (net F (K ++ rest))
   way =
@@ -278,9 +278,9 @@ module _ (C : Conf) (v : Valid C) (o : Once (C .eqs)) where
         printed = second .made .shown ∙ ap (λ ts. (read 0 ts ((read 0 F fresh) .after)) .shown) (sym even);
         no-more =
             λ x h.
-            touches-ties x ((pairs-read C) .after .left)
+            touches-ties x ((pairs-read C) .after .unmet)
             ∙ second .made .settled x (subst (λ ts. 0 < count x (names ts)) even h);
         are-stuck = agents-stuck K (subst (Allowed ⊥) (sym even) (second .made .tops (stuck-allowed (C .eqs))));
         as-many = omega (arith, sides-size (stuck (C .eqs)), sides-size K, ap size even, second .made .long);
-        knot = sym (agents-ties ((pairs-read C) .after .left));
+        knot = sym (agents-ties ((pairs-read C) .after .unmet));
       }

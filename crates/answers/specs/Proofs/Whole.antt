@@ -15,23 +15,23 @@ use Rattle.answers.specs.Proofs.Counts.{tied-agents-∼}
 -- Two ways to read what is tied that agree where fewer than k equations are left; and what either loses of the agents: none.
 pub record Agree {s : Sort} (t : Tree s) (S : Reader) (r q : Reading s) : Type 0 where
   pub equal : r ≡ q
-  pub fewer : length (r .after .left) ≤ length (S .left)
-  pub whole : agents (r .shown) + tied-agents (r .after .left) ≡ agents t + tied-agents (S .left)
+  pub fewer : length (r .after .unmet) ≤ length (S .unmet)
+  pub whole : agents (r .shown) + tied-agents (r .after .unmet) ≡ agents t + tied-agents (S .unmet)
 
-module _ (k : ℕ) (f g : Term → Reader → Reading one) (h : (t : Term) (S : Reader) → length (S .left) < k → Agree t S (f t S) (g t S)) where
-  named-agree : (x : ℕ) (S : Reader) → length (S .left) ≤ k → (d : Found) (p : Pick) → PickIs x (S .left) p
+module _ (k : ℕ) (f g : Term → Reader → Reading one) (h : (t : Term) (S : Reader) → length (S .unmet) < k → Agree t S (f t S) (g t S)) where
+  named-agree : (x : ℕ) (S : Reader) → length (S .unmet) ≤ k → (d : Found) (p : Pick) → PickIs x (S .unmet) p
       → Agree (var x) S (named f x S d p) (named g x S d p)
   named-agree x S b (known j) p i = record { equal = refl; fewer = omega arith; whole = refl }
   named-agree x S b unknown alone i = record { equal = refl; fewer = omega arith; whole = refl }
   named-agree x S b unknown (beside (var y) r) i =
       record { equal = refl; fewer = omega (arith, perm-length i); whole = omega (arith, tied-agents-∼ i) }
   named-agree x S b unknown (beside (node a ts) r) i =
-      let q = h (node a ts) (record { next = S .next; numbers = S .numbers; left = r }) (omega (arith, b, perm-length i)) in
+      let q = h (node a ts) (record { next = S .next; numbers = S .numbers; unmet = r }) (omega (arith, b, perm-length i)) in
       record { equal = q .equal; fewer = omega (arith, q .fewer, perm-length i); whole = omega (arith, q .whole, tied-agents-∼ i) }
 
-  read-by-agree : {s : Sort} (t : Tree s) (S : Reader) → length (S .left) ≤ k
+  read-by-agree : {s : Sort} (t : Tree s) (S : Reader) → length (S .unmet) ≤ k
       → Agree t S (read-by f t S) (read-by g t S)
-  read-by-agree (var x) S b = named-agree x S b (find x (S .numbers)) (pick x (S .left)) (pick-is x (S .left))
+  read-by-agree (var x) S b = named-agree x S b (find x (S .numbers)) (pick x (S .unmet)) (pick-is x (S .unmet))
   read-by-agree (node a ts) S b =
       let q = read-by-agree ts S b in
       record { equal = ap (agent a) (q .equal); fewer = q .fewer; whole = omega (arith, q .whole) }
@@ -46,7 +46,7 @@ module _ (k : ℕ) (f g : Term → Reader → Reading one) (h : (t : Term) (S : 
         whole = omega (arith, r .whole, q .whole);
       }
 
-pub read-agree : (n m : ℕ) {s : Sort} (t : Tree s) (S : Reader) → length (S .left) ≤ n → length (S .left) ≤ m
+pub read-agree : (n m : ℕ) {s : Sort} (t : Tree s) (S : Reader) → length (S .unmet) ≤ n → length (S .unmet) ≤ m
     → Agree t S (read n t S) (read m t S)
 read-agree zero zero t S b c =
     read-by-agree 0 (λ u R. record { shown = var 0; after = R }) (λ u R. record { shown = var 0; after = R }) (λ u R a. absurd (omega (arith, a))) t S b
@@ -56,7 +56,7 @@ read-agree (suc n) zero t S b c =
     read-by-agree 0 (read n) (λ u R. record { shown = var 0; after = R }) (λ u R a. absurd (omega (arith, a))) t S c
 read-agree (suc n) (suc m) t S b c =
     read-by-agree
-    (length (S .left))
+    (length (S .unmet))
     (read n)
     (read m)
     (λ u R a. read-agree n m u R (omega (arith, a, b)) (omega (arith, a, c)))
@@ -65,7 +65,7 @@ read-agree (suc n) (suc m) t S b c =
     (omega arith)
 
 -- A bound that is not below the number of the equations left does not matter.
-pub read-enough : (n m : ℕ) {s : Sort} (t : Tree s) (S : Reader) → length (S .left) ≤ n → length (S .left) ≤ m
+pub read-enough : (n m : ℕ) {s : Sort} (t : Tree s) (S : Reader) → length (S .unmet) ≤ n → length (S .unmet) ≤ m
     → read n t S ≡ read m t S
 read-enough n m t S b c = (read-agree n m t S b c) .equal
 

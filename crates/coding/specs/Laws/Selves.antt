@@ -13,7 +13,7 @@ use Rattle.texts.specs.Books as Books
 use Rattle.texts.specs.RuleText.{Wire, fault10, oneSided, within, mirrored, wireOf}
 use Rattle.texts.specs.Coded.{symbolOf, template, arityAt}
 use Rattle.texts.specs.TableTest.{turnsTo, twoSided}
-use Rattle.texts.specs.Conditions.{SoundRule}
+use Rattle.texts.specs.Proofs.RuleSound.{SoundRule}
 use Rattle.texts.specs.Proofs.Tools.{empty}
 use Rattle.texts.specs.Proofs.Templates.{Few, template-cells, right-args}
 use Rattle.texts.specs.Proofs.Ranged.{first-arity, second-arity}
@@ -35,7 +35,7 @@ module _ (b : Book) (r : Books.Rule) (s : SoundRule (b .agents) r) (few : Few r)
   parts = (refl, refl, refl)
 
   heads-same : eqb ((template ags r) .left) ((template ags r) .right) ≡ same (headOf (r .first)) (headOf (r .second))
-  heads-same = rw (parts .0, parts .1) (symbol-same ags (headOf (r .first)) (headOf (r .second)) (s .first-agent) (s .second-agent))
+  heads-same = rw (parts .0, parts .1) (symbol-same ags (headOf (r .first)) (headOf (r .second)) (s .named .first-agent) (s .named .second-agent))
 
   cells-same : length ((template ags r) .cells) ≡ length (cellsOf ags (rights r))
   cells-same = template-cells ags r (right-args ags r s)

@@ -59,7 +59,7 @@ module _ (line : List ℕ) (next b : ℕ) (eb : b ≡ badAt line) where
 
     pub head-counts : (a c : ℕ) → h ≡ Header.Counts a c → Headed line next (Counted a c next)
     unfolding Headed need
-    head-counts a c e = (head-by (some (record { first = a; second = c })) (sym eh ∙ ap countsOf e), refl)
+    head-counts a c e = (head-by (some (record { upper = a; lower = c })) (sym eh ∙ ap countsOf e), refl)
 
 module _ (text : List ℕ) (r : NextLine) (er : r ≡ nextLine text 0) where
   pub first-none : r ≡ Nothing → FirstRead text (Wrong 3)
@@ -80,7 +80,7 @@ module _ (text : List ℕ) (r : NextLine) (er : r ≡ nextLine text 0) where
     unfolding FirstRead Headed netOfLines afterLine
     first-ended (Wrong n) q = (λ ags. ap (netOfLines ags) here ∙ rw (q .0), q .1)
     first-ended (Counted a b k) q = (
-      λ ags. ap (netOfLines ags) here ∙ rw (q .0) (ap (λ n. faceAndEqs ags (record { first = a; second = b }) (lines (drop n text))) (sym (q .1))),
+      λ ags. ap (netOfLines ags) here ∙ rw (q .0) (ap (λ n. faceAndEqs ags (record { upper = a; lower = b }) (lines (drop n text))) (sym (q .1))),
       (let z = (ended-stands text 0 r er h) .within in let y = q .1 in omega (arith, z, y)),
     )
 

@@ -13,7 +13,7 @@ use Rattle.texts.specs.Bytes.{lines, different}
 use Rattle.texts.specs.Books.{Agent, Net, cellsOf, namesOf, netTerms}
 use Rattle.texts.specs.Answers.{OfText, accepted, refused, readLines, after}
 use Rattle.texts.specs.RuleText.{Counts}
-use Rattle.texts.specs.NetText.{eqLine, looseLine, netLines, unlessLoose, tied, netCounted, faceAndEqs, netOfLines}
+use Rattle.texts.specs.NetText.{eqLine, looseLine, netLines, unlessLoose, namesTwice, netCounted, faceAndEqs, netOfLines}
 use Rattle.texts.specs.Proofs.Linear.{cell-count}
 use Rattle.table.specs.Lists.{tab}
 use Rattle.table.specs.Layout.{agentsIn}
@@ -72,18 +72,18 @@ module _ (text : List ℕ) (ags : List Agent) (s : Sheet) (cs ms : List ℕ) (m 
       whole a b u v x y p e q r = rw (e, q, r)
 
   module _ (f k l : ℕ) (ef : f ≡ length (m .face)) (ek : k ≡ length (m .equations)) (el : l ≡ looseAt ags s cs ms f k) where
-    pub tied-8 : ¬ (l ≡ 0) → tied ags m ≡ refused 8 l
-    unfolding tied unlessLoose looseAt
-    tied-8 h = ap (λ o. unlessLoose o m) (loose-told f k ef ek) ∙ go (ltb (passed (firstLoose (looseOn ags s cs (f + 2 * k)) 0 (s .names)) (marked ms (k + 1))) (k + 1)) refl
+    pub twice-8 : ¬ (l ≡ 0) → namesTwice ags m ≡ refused 8 l
+    unfolding namesTwice unlessLoose looseAt
+    twice-8 h = ap (λ o. unlessLoose o m) (loose-told f k ef ek) ∙ go (ltb (passed (firstLoose (looseOn ags s cs (f + 2 * k)) 0 (s .names)) (marked ms (k + 1))) (k + 1)) refl
       where
         go : (t : Bool) → ltb (passed (firstLoose (looseOn ags s cs (f + 2 * k)) 0 (s .names)) (marked ms (k + 1))) (k + 1) ≡ t
             → unlessLoose (cond t (some (2 + passed (firstLoose (looseOn ags s cs (f + 2 * k)) 0 (s .names)) (marked ms (k + 1)))) none) m ≡ refused 8 l
         go true e = ap (refused 8) (sym (el ∙ rw e))
         go false e = absurd (h (el ∙ rw e))
 
-    pub tied-fine : l ≡ 0 → tied ags m ≡ accepted m
-    unfolding tied unlessLoose looseAt
-    tied-fine h = ap (λ o. unlessLoose o m) (loose-told f k ef ek) ∙ go (ltb (passed (firstLoose (looseOn ags s cs (f + 2 * k)) 0 (s .names)) (marked ms (k + 1))) (k + 1)) refl
+    pub twice-fine : l ≡ 0 → namesTwice ags m ≡ accepted m
+    unfolding namesTwice unlessLoose looseAt
+    twice-fine h = ap (λ o. unlessLoose o m) (loose-told f k ef ek) ∙ go (ltb (passed (firstLoose (looseOn ags s cs (f + 2 * k)) 0 (s .names)) (marked ms (k + 1))) (k + 1)) refl
       where
         go : (t : Bool) → ltb (passed (firstLoose (looseOn ags s cs (f + 2 * k)) 0 (s .names)) (marked ms (k + 1))) (k + 1) ≡ t
             → unlessLoose (cond t (some (2 + passed (firstLoose (looseOn ags s cs (f + 2 * k)) 0 (s .names)) (marked ms (k + 1)))) none) m ≡ accepted m
@@ -102,17 +102,17 @@ refusal text ags answer n l m f k s cs ms h e =
     record { net = m; told = e ∙ outcome-bad n l m h; drafted = λ z. absurd (h z); faces = λ z. absurd (h z); equations = λ z. absurd (h z) }
 
 -- After the `face` line.
-module _ (text : List ℕ) (ags : List Agent) (table : List ℕ) (at first second f : ℕ) (m : Net) (s : Sheet) (cs ms : List ℕ) (b : Begun text ags table f m s cs ms)
+module _ (text : List ℕ) (ags : List Agent) (table : List ℕ) (at upper lower f : ℕ) (m : Net) (s : Sheet) (cs ms : List ℕ) (b : Begun text ags table f m s cs ms)
     (number k : ℕ) (s₁ : Sheet) (cs₁ ms₁ : List ℕ) (e : EqsRead text ags at m number k s₁ cs₁ ms₁) where
   abbrev answer : OfText Net
-  answer = after (readLines (eqLine ags) 3 m (lines (drop at text))) (netCounted ags (record { first = first; second = second }))
+  answer = after (readLines (eqLine ags) 3 m (lines (drop at text))) (netCounted ags (record { upper = upper; lower = lower }))
 
   pub face-faulty : ¬ (number ≡ 0) → {n l : ℕ} → n ≡ number → l ≡ 3 + k → (f₂ k₂ : ℕ) (s₂ : Sheet) (cs₂ ms₂ : List ℕ) → TextRead text ags answer n l f₂ k₂ s₂ cs₂ ms₂
   unfolding after
   face-faulty h en el f₂ k₂ s₂ cs₂ ms₂ =
       rw (en, el)
       (refusal text ags answer number (3 + k) m f₂ k₂ s₂ cs₂ ms₂ h
-      (ap (λ o. after o (netCounted ags (record { first = first; second = second }))) (e .told ∙ sym (outcome-bad number (3 + k) (e .net) h))))
+      (ap (λ o. after o (netCounted ags (record { upper = upper; lower = lower }))) (e .told ∙ sym (outcome-bad number (3 + k) (e .net) h))))
 
   module _ (z : number ≡ 0) where
     ef : f ≡ length ((e .net) .face)
@@ -121,41 +121,41 @@ module _ (text : List ℕ) (ags : List Agent) (table : List ℕ) (at first secon
     ek : k ≡ length ((e .net) .equations)
     ek = e .many z
 
-    answer-is : answer ≡ cond (eqb first f && eqb second k) (tied ags (e .net)) (refused 11 1)
+    answer-is : answer ≡ cond (eqb upper f && eqb lower k) (namesTwice ags (e .net)) (refused 11 1)
     unfolding after outcome netCounted
     answer-is =
-        ap (λ o. after o (netCounted ags (record { first = first; second = second }))) (e .told ∙ ap (λ n. outcome n (3 + k) (e .net)) z)
-        ∙ ap₂ (λ x y. cond (eqb first x && eqb second y) (tied ags (e .net)) (refused 11 1)) (sym ef) (sym ek)
+        ap (λ o. after o (netCounted ags (record { upper = upper; lower = lower }))) (e .told ∙ ap (λ n. outcome n (3 + k) (e .net)) z)
+        ∙ ap₂ (λ x y. cond (eqb upper x && eqb lower y) (namesTwice ags (e .net)) (refused 11 1)) (sym ef) (sym ek)
 
-    pub count-first : ¬ (first ≡ f) → {n l : ℕ} → n ≡ 11 → l ≡ 1 → (f₂ k₂ : ℕ) (s₂ : Sheet) (cs₂ ms₂ : List ℕ) → TextRead text ags answer n l f₂ k₂ s₂ cs₂ ms₂
-    count-first h en el f₂ k₂ s₂ cs₂ ms₂ =
-        rw (en, el) (refusal text ags answer 11 1 m f₂ k₂ s₂ cs₂ ms₂ (λ y. absurd (omega arith)) (answer-is ∙ rw (ne-eqb first f h)))
+    pub count-upper : ¬ (upper ≡ f) → {n l : ℕ} → n ≡ 11 → l ≡ 1 → (f₂ k₂ : ℕ) (s₂ : Sheet) (cs₂ ms₂ : List ℕ) → TextRead text ags answer n l f₂ k₂ s₂ cs₂ ms₂
+    count-upper h en el f₂ k₂ s₂ cs₂ ms₂ =
+        rw (en, el) (refusal text ags answer 11 1 m f₂ k₂ s₂ cs₂ ms₂ (λ y. absurd (omega arith)) (answer-is ∙ rw (ne-eqb upper f h)))
 
-    pub count-second : first ≡ f → ¬ (second ≡ k) → {n l : ℕ} → n ≡ 11 → l ≡ 1 → (f₂ k₂ : ℕ) (s₂ : Sheet) (cs₂ ms₂ : List ℕ) → TextRead text ags answer n l f₂ k₂ s₂ cs₂ ms₂
-    count-second g h en el f₂ k₂ s₂ cs₂ ms₂ =
-        rw (en, el) (refusal text ags answer 11 1 m f₂ k₂ s₂ cs₂ ms₂ (λ y. absurd (omega arith)) (answer-is ∙ rw (eq-eqb first f g, ne-eqb second k h)))
+    pub count-lower : upper ≡ f → ¬ (lower ≡ k) → {n l : ℕ} → n ≡ 11 → l ≡ 1 → (f₂ k₂ : ℕ) (s₂ : Sheet) (cs₂ ms₂ : List ℕ) → TextRead text ags answer n l f₂ k₂ s₂ cs₂ ms₂
+    count-lower g h en el f₂ k₂ s₂ cs₂ ms₂ =
+        rw (en, el) (refusal text ags answer 11 1 m f₂ k₂ s₂ cs₂ ms₂ (λ y. absurd (omega arith)) (answer-is ∙ rw (eq-eqb upper f g, ne-eqb lower k h)))
 
     pub eqs-few : s₁ .cells ≤ net-cells-max
     eqs-few = cells-few text ags s₁ cs₁ ms₁ (e .net) (e .drafted z)
 
-    module _ (ea : first ≡ f) (eb : second ≡ k) (l : ℕ) (el : l ≡ looseAt (agentsIn table) s₁ cs₁ ms₁ f k) where
+    module _ (ea : upper ≡ f) (eb : lower ≡ k) (l : ℕ) (el : l ≡ looseAt (agentsIn table) s₁ cs₁ ms₁ f k) where
       loose-here : l ≡ looseAt ags s₁ cs₁ ms₁ f k
       loose-here = el ∙ ap (λ a. looseAt a s₁ cs₁ ms₁ f k) (b .same)
 
-      tied-is : answer ≡ tied ags (e .net)
-      tied-is = answer-is ∙ rw (eq-eqb first f ea, eq-eqb second k eb)
+      twice-is : answer ≡ namesTwice ags (e .net)
+      twice-is = answer-is ∙ rw (eq-eqb upper f ea, eq-eqb lower k eb)
 
       pub text-8 : ¬ (l ≡ 0) → {n j : ℕ} → n ≡ 8 → j ≡ l → (f₂ k₂ : ℕ) (s₂ : Sheet) (cs₂ ms₂ : List ℕ) → TextRead text ags answer n j f₂ k₂ s₂ cs₂ ms₂
       text-8 h en ej f₂ k₂ s₂ cs₂ ms₂ =
           rw (en, ej)
-          (refusal text ags answer 8 l m f₂ k₂ s₂ cs₂ ms₂ (λ y. absurd (omega arith)) (tied-is ∙ tied-8 text ags s₁ cs₁ ms₁ (e .net) (e .drafted z) f k l ef ek loose-here h))
+          (refusal text ags answer 8 l m f₂ k₂ s₂ cs₂ ms₂ (λ y. absurd (omega arith)) (twice-is ∙ twice-8 text ags s₁ cs₁ ms₁ (e .net) (e .drafted z) f k l ef ek loose-here h))
 
       pub text-fine : l ≡ 0 → TextRead text ags answer 0 0 f k s₁ cs₁ ms₁
       unfolding outcome
       text-fine h =
           record {
             net = e .net;
-            told = tied-is ∙ tied-fine text ags s₁ cs₁ ms₁ (e .net) (e .drafted z) f k l ef ek loose-here h;
+            told = twice-is ∙ twice-fine text ags s₁ cs₁ ms₁ (e .net) (e .drafted z) f k l ef ek loose-here h;
             drafted = λ y. e .drafted z;
             faces = λ y. ef;
             equations = λ y. ek;
@@ -170,7 +170,7 @@ module _ (text : List ℕ) (ags : List Agent) (r : First) (fr : FirstRead text r
       rw (ei, el) (refusal text ags (netOfLines ags (lines text)) n 1 (record { face = []; equations = [] }) f k s cs ms (q .1) (q .0 ags))
 
   module _ (a c next : ℕ) (e : r ≡ Counted a c next) where
-    counted : ((ags : List Agent) → netOfLines ags (lines text) ≡ faceAndEqs ags (record { first = a; second = c }) (lines (drop next text))) × (next ≤ length text)
+    counted : ((ags : List Agent) → netOfLines ags (lines text) ≡ faceAndEqs ags (record { upper = a; lower = c }) (lines (drop next text))) × (next ≤ length text)
     unfolding FirstRead
     counted = subst (FirstRead text) e fr
 
@@ -180,7 +180,7 @@ module _ (text : List ℕ) (ags : List Agent) (r : First) (fr : FirstRead text r
       unfolding SecondRead
       text-second {n} q ei el f k s₂ cs₂ ms₂ =
           let u : ((c : Counts) → faceAndEqs ags c (lines (drop next text)) ≡ refused n 2) × (¬ (n ≡ 0)) = subst (λ x. SecondRead text ags next x s cs ms) q sr in
-          rw (ei, el) (refusal text ags (netOfLines ags (lines text)) n 2 (record { face = []; equations = [] }) f k s₂ cs₂ ms₂ (u .1) (counted .0 ags ∙ u .0 (record { first = a; second = c })))
+          rw (ei, el) (refusal text ags (netOfLines ags (lines text)) n 2 (record { face = []; equations = [] }) f k s₂ cs₂ ms₂ (u .1) (counted .0 ags ∙ u .0 (record { upper = a; lower = c })))
 
       module _ (f at : ℕ) (q : t ≡ Face f at) where
         face-here : FaceHere text ags next f at s cs ms
@@ -195,12 +195,12 @@ module _ (text : List ℕ) (ags : List Agent) (r : First) (fr : FirstRead text r
 
         pub text-rest : {n l g k : ℕ} {s₂ : Sheet} {cs₂ ms₂ : List ℕ}
             → ((m : Net) → Begun text ags table f m s cs ms
-            → TextRead text ags (after (readLines (eqLine ags) 3 m (lines (drop at text))) (netCounted ags (record { first = a; second = c }))) n l g k s₂ cs₂ ms₂)
+            → TextRead text ags (after (readLines (eqLine ags) 3 m (lines (drop at text))) (netCounted ags (record { upper = a; lower = c }))) n l g k s₂ cs₂ ms₂)
             → TextRead text ags (netOfLines ags (lines text)) n l g k s₂ cs₂ ms₂
         unfolding face-here begun
         text-rest {n} {l} {g} {k} {s₂} {cs₂} {ms₂} j =
             subst (λ o. TextRead text ags o n l g k s₂ cs₂ ms₂)
-            (sym (counted .0 ags ∙ face-here .goes (record { first = a; second = c })))
+            (sym (counted .0 ags ∙ face-here .goes (record { upper = a; lower = c })))
             (j (begun .0) (begun .1))
 
 pub within-few : (text : List ℕ) (t : Second) (f at : ℕ) → Within text t → t ≡ Face f at → f ≤ face-max

@@ -8,12 +8,12 @@ use borrow.Author.Tests.{ltb-true}
 use Rattle.calculus.specs.Terms.{if-eq}
 use Prim.Native.Nat.{ℕ}
 use Rattle.parts.specs.Sides.{side}
-use Rattle.texts.specs.Bytes.{any, all, keep, same, among, times, different, indexOf, letter, digit, wordByte, allowed, onLine, lines, fault2, onField, fields, isNumber, value, numberOf, decimal, textOf, tabbed, lineOf}
+use Rattle.texts.specs.Bytes.{bytes, any, all, keep, same, among, times, different, indexOf, letter, digit, wordByte, allowed, onLine, lines, fault2, onField, fields, isNumber, value, numberOf, decimal, textOf, tabbed, lineOf}
 use Rattle.texts.specs.Terms.{identifier, symbol, count, nodes, wordsOf, nodesAt, spell, brackets, closing}
 use Rattle.texts.specs.Books.{declared, takes, cellsOf, namesOf, sides, pairs, lefts, rights, headOf, heads, argsOf, leftArgs, newNames, netTerms, add, writeFace, writeEquation}
 use Rattle.texts.specs.Answers.{need, _>>=_, absent, holds, refuse, after, afterLine, readLines}
 use Rattle.texts.specs.RuleText.{headerOf, agentFields, even, ruleFields, ruleless, shapeOf, shape, fault3, termsOf, recordOf, meant, fault4, tooLong, bigNode, bigRecord, bigBook, fault5, fault6, wrongArgs, fault7, overNames, allDifferent, rightTimes, wrongTimes, fault8, samePair, fault9, wireOf, sameWire, within, wordAt, mirror, mirrored, oneSided, fault10, headerLine, judged, ruleLine, counted, rulesOfLines, readRules}
-use Rattle.texts.specs.NetText.{faceFields, eqFields, bigNet, netFault5, netFault7, netJudged, faceNet, moreNet, faceLine, eqLine, loose, netLines, looseLine, unlessLoose, tied, netCounted, faceAndEqs, netOfLines, readNet, netRead}
+use Rattle.texts.specs.NetText.{faceFields, eqFields, bigNet, netFault5, netFault7, netJudged, faceNet, moreNet, faceLine, eqLine, loose, netLines, looseLine, unlessLoose, namesTwice, netCounted, faceAndEqs, netOfLines, readNet, netRead}
 use Rattle.texts.specs.Coded.{symbolOf, packed, twos, size, codeAt, codes, cellsAt, cellsFrom, ruleNumber, template, tableOf, machine, netNumber, load}
 use Rattle.texts.specs.Proofs.Reader.{atComma, atOpen, atClose, onPart, partOf, whole, termOf}
 use Rattle.model.specs.Stepped.{stepped}
@@ -24,7 +24,7 @@ use Rattle.answers.specs.Text.{spelling, numeral, answer-text}
 use Rattle.report.specs.Numbers.{spelt, digits}
 use Rattle.report.specs.Firsts.{ended, stopped, refusal}
 use Rattle.evaluation.specs.Evaluated.{ending, running, net-printed, rules-printed, evaluated}
-use Rattle.review.specs.Examples.{bytes, text, rules, Comes, Bench, ackermann-rules, ackermann-net}
+use Rattle.review.specs.Examples.{text, rules, Comes, Bench, ackermann-rules, ackermann-net}
 use Rattle.review.specs.Picks.{Premise}
 use Rattle.review.specs.Proofs.Shown.{of-net, of-texts, steps-from, came-of, came, run-shows}
 
@@ -35,7 +35,7 @@ comes {net} {i} {l} {s} {c} p q o =
     record { printed = p; premise = k .premise; loaded = k .loaded; by-head = k .by-head (ltb-true s 100 o); left = k .left }
 
 both : Bench × (came 0 (text ackermann-rules) (bytes ackermann-net) ≡ came-of 133 8 0 10 0)
-unfolding bytes text of-net of-texts steps-from came any all keep same among times different indexOf letter digit wordByte allowed onLine lines
+unfolding text of-net of-texts steps-from came any all keep same among times different indexOf letter digit wordByte allowed onLine lines
     fault2 onField fields isNumber value numberOf identifier symbol count nodes wordsOf nodesAt declared takes
     cellsOf namesOf sides pairs lefts rights headOf heads argsOf leftArgs newNames netTerms add need _>>=_
     absent holds refuse after afterLine readLines headerOf agentFields even ruleFields ruleless shapeOf shape
@@ -43,7 +43,7 @@ unfolding bytes text of-net of-texts steps-from came any all keep same among tim
     overNames allDifferent rightTimes wrongTimes fault8 samePair fault9 wireOf sameWire within wordAt mirror
     mirrored oneSided fault10 headerLine judged ruleLine counted rulesOfLines readRules faceFields eqFields
     bigNet netFault5 netFault7 netJudged faceNet moreNet faceLine eqLine loose netLines looseLine unlessLoose
-    tied netCounted faceAndEqs netOfLines readNet netRead atComma atOpen atClose onPart partOf whole termOf
+    namesTwice netCounted faceAndEqs netOfLines readNet netRead atComma atOpen atClose onPart partOf whole termOf
     symbolOf packed twos size codeAt codes cellsAt cellsFrom ruleNumber template tableOf machine netNumber load
     stepped run ran loaded state-answer spelling numeral answer-text spelt digits ended stopped refusal ending
     running net-printed rules-printed evaluated if-eq side ℕ-discrete decLt decLe decimal textOf tabbed lineOf

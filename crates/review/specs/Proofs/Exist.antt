@@ -22,7 +22,7 @@ use Rattle.lent.specs.Decided.{decided}
 use Rattle.rules.specs.declared.RulesAnswer.{RulesAnswer}
 use Rattle.rules.specs.declared.RulesAnswer.the-variants as Rule
 use Rattle.rules.specs.Main as Rules
-use Rattle.rules.specs.Answer.{refusal, left, leftBy, rulesRead}
+use Rattle.rules.specs.Answer.{refusal, leaves, leavesBy, rulesRead}
 use Rattle.nets.specs.declared.NetAnswer.{NetAnswer}
 use Rattle.nets.specs.declared.NetAnswer.the-variants as Net
 use Rattle.nets.specs.Answer.{Call, filled, kept, soundTable, netCall}
@@ -41,7 +41,7 @@ use Rattle.review.specs.Proofs.Arrays.{array-of, view-of-array}
 use Rattle.review.specs.Proofs.Steps.{StepIf, step-leaves, moves-to, step-some, step-comes, RunIf, run-leaves, run-some, run-comes}
 
 some-rules : (text table : List ℕ) → (r : RulesAnswer) × (u : List ℕ) × RulesCall text table r u
-unfolding rulesRead left refusal leftBy
+unfolding rulesRead leaves refusal leavesBy
 some-rules text table = go (readRules text) refl
   where
     go : (x : OfText Book) → readRules text ≡ x → (r : RulesAnswer) × (u : List ℕ) × RulesCall text table r u

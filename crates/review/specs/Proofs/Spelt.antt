@@ -23,7 +23,7 @@ use Rattle.table.specs.Given.{Given}
 use Rattle.rules.specs.declared.RulesAnswer.{RulesAnswer}
 use Rattle.rules.specs.declared.RulesAnswer.the-variants as Rules
 use Rattle.rules.specs.Main as ReadRules
-use Rattle.rules.specs.Answer.{refusal, left, leftBy, rulesRead}
+use Rattle.rules.specs.Answer.{refusal, leaves, leavesBy, rulesRead}
 use Rattle.nets.specs.declared.NetAnswer.the-variants as Net
 use Rattle.nets.specs.Answer.{filled}
 use Rattle.nets.specs.Main as Nets
@@ -42,17 +42,17 @@ module _ (w : List ℕ) where
 
 pub same-refusal : {text table table′ u u′ : List ℕ} {r q : RulesAnswer} → RulesCall text table r u
     → RulesCall text table′ q u′ → refusal r ≡ refusal q
-unfolding left
+unfolding leaves
 same-refusal {text} {table} {table′} c d =
     ap (λ x. x .said) (c .promised) ∙ (ReadRules.text-decides text table table′ ∙ sym (ap (λ x. x .said) (d .promised)))
 
 module _ (text table u : List ℕ) where
   pub book-spelt : RulesCall text table Rules.Accepted u
       → (b : Book) × (text ≡ printBook b) × GoodBook b × (length text ≤ text-max) × (u ≡ tableBytes b)
-  unfolding left rulesRead refusal leftBy
+  unfolding leaves rulesRead refusal leavesBy
   book-spelt c = go (readRules text) refl (c .promised)
     where
-      go : (x : OfText Book) → readRules text ≡ x → left Rules.Accepted u ≡ leftBy x table
+      go : (x : OfText Book) → readRules text ≡ x → leaves Rules.Accepted u ≡ leavesBy x table
           → (b : Book) × (text ≡ printBook b) × GoodBook b × (length text ≤ text-max) × (u ≡ tableBytes b)
       go (accepted b) e k =
           let p = Texts.rule-text-accepted text b .0 e in (b, p .0, p .1, p .2, ap (λ x. x .table) k)
@@ -60,7 +60,7 @@ module _ (text table u : List ℕ) where
 
   pub spelt-book : (b : Book) → text ≡ printBook b → GoodBook b → length text ≤ text-max → u ≡ tableBytes b
       → RulesCall text table Rules.Accepted u
-  unfolding left rulesRead refusal leftBy
+  unfolding leaves rulesRead refusal leavesBy
   spelt-book b p g l q = record { promised = rw (Texts.rule-text-accepted text b .1 (p, g, l), q) }
 
 pub spelt-net : (text : List ℕ) (b : Book) → GoodBook b → (v v′ : List ℕ) (n : Net) → text ≡ printNet n

@@ -11,7 +11,7 @@ use Rattle.texts.specs.Bytes.{Word, any, all, same, among, indexOf, different, 
 use Rattle.texts.specs.Terms.{Term, Terms, term, nil, cons, identifier, worded, wordeds, nodes, wordsOf}
 use Rattle.texts.specs.Books.{Agent, Rule, declared, argsOf, leftArgs, lefts, rights, namesOf, newNames}
 use Rattle.texts.specs.Coded.{packed, second-from, new-from, ruleNumber}
-use Rattle.texts.specs.Conditions.{SoundRule}
+use Rattle.texts.specs.Proofs.RuleSound.{SoundRule}
 use Rattle.texts.specs.Proofs.Tools.{never, both, neither, among-in, in-among}
 use Rattle.texts.specs.Proofs.Places.{index-left, keep-in}
 use Rattle.texts.specs.Proofs.TermLists.{among-append}

@@ -7,11 +7,11 @@ use mathlib.Core.List.{List, _++_, List·Memᴰ·append-cases, Memᴰ·append-le
 use native.Mathlib.Omega.{arith}
 use lib.Dec.{eqb}
 use borrow.Author.Tests.{eqb-true, eq-eqb, not-false}
-use Rattle.texts.specs.Bytes.{Word, any, all, keep, among, times, In}
+use Rattle.texts.specs.Bytes.{Word, any, all, keep, among, times, In, Distinct}
 use Rattle.texts.specs.Terms.{nodes, wordsOf}
 use Rattle.texts.specs.Books.{Agent, Book, Rule, isRule, declared, leftArgs, lefts, rights, namesOf}
 use Rattle.texts.specs.RuleText.{wrongArgs, overNames, allDifferent, rightTimes, wrongTimes, fault8}
-use Rattle.texts.specs.Proofs.Tools.{never, never′, both, neither, noneOf, any-false, false-any, among-in, in-among, Distinct}
+use Rattle.texts.specs.Proofs.Tools.{never, never′, both, neither, noneOf, any-false, false-any, among-in, in-among}
 use Rattle.texts.specs.Proofs.Places.{keep-in, in-keep}
 use Rattle.texts.specs.Proofs.Linear.{words-append}
 use Rattle.rule_tests.specs.Words.{wrongWord}

@@ -6,8 +6,8 @@ use mathlib.Core.Logic.{⊎-elim}
 use mathlib.Core.List.{List, [], _∷_, List·Memᴰ·not-nil, List·Memᴰ·cases-cons}
 use native.Mathlib.Omega.{arith}
 use lib.ListN.{length}
-use Rattle.texts.specs.Bytes.{Word, keep, same, among, different, In}
-use Rattle.texts.specs.Proofs.Tools.{never, same-eq, same-refl, among-in, Distinct}
+use Rattle.texts.specs.Bytes.{Word, keep, same, among, different, In, Distinct}
+use Rattle.texts.specs.Proofs.Tools.{never, same-eq, same-refl, among-in}
 use Rattle.texts.specs.Proofs.Places.{not-in, keep-in, in-keep, different-in, in-different, different-distinct, keep-every, same-not}
 use Rattle.rule_tests.specs.Words.{lastOnes}
 

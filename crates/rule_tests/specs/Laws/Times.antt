@@ -6,9 +6,9 @@ use mathlib.Core.Logic.{⊎-elim}
 use mathlib.Core.List.{List, [], _∷_, List·Memᴰ·head, List·Memᴰ·tail, List·Memᴰ·not-nil, List·Memᴰ·cases-cons}
 use native.Mathlib.Omega.{arith}
 use lib.ListN.{length}
-use Rattle.texts.specs.Bytes.{Word, any, keep, same, among, times, In}
+use Rattle.texts.specs.Bytes.{Word, any, keep, same, among, times, In, Distinct}
 use Rattle.texts.specs.RuleText.{allDifferent}
-use Rattle.texts.specs.Proofs.Tools.{never, neither, same-eq, same-refl, among-in, Distinct}
+use Rattle.texts.specs.Proofs.Tools.{never, neither, same-eq, same-refl, among-in}
 use Rattle.texts.specs.Proofs.Places.{not-in, same-not}
 use Rattle.texts.specs.Proofs.RuleSound.{of-distinct}
 

@@ -9,13 +9,13 @@ use lib.ListN.{length}
 use lib.Dec.{ltb, leb}
 use borrow.Author.Tests.{leb-true, le-leb, ltb-false, not-true}
 use Rattle.parts.specs.Limits.{identifier-max, arity-max}
-use Rattle.texts.specs.Bytes.{Word, any, all, same, indexOf, letter, In}
+use Rattle.texts.specs.Bytes.{Word, any, all, same, indexOf, letter, In, Distinct}
 use Rattle.texts.specs.Terms.{identifier, symbol}
 use Rattle.texts.specs.Books.{Agent, Book, isAgent, declared, takes}
 use Rattle.texts.specs.RuleText.{wordAt, tooLong, bigRecord, fault5, fault6}
 use Rattle.texts.specs.Coded.{symbolOf, arityAt}
 use Rattle.texts.specs.TableTest.{agentOk, testAgents}
-use Rattle.texts.specs.Proofs.Tools.{never, both, pair, neither, any-append, same-refl, Distinct, all-true}
+use Rattle.texts.specs.Proofs.Tools.{never, both, pair, neither, any-append, same-refl, all-true}
 use Rattle.texts.specs.Proofs.Places.{at-in, index-word}
 use Rattle.texts.specs.Proofs.BookSound.{agent-good}
 use Rattle.texts.specs.Good.{Good, GoodBook, Spelt}

@@ -1,23 +1,22 @@
 -- What an accepted book satisfies, as the calculus asks it: in terms of places and occurrences.
 use Prim.Native.Nat.{ℕ, suc, _≤_}
 use mathlib.Core.Path.{_≡_, refl, ap, sym, _∙_}
-use mathlib.Core.Bool.{Bool, true, false, cond, not, _&&_, _||_}
-use mathlib.Core.Logic.{_↔_, ⊎-elim}
-use mathlib.Core.List.{List, map-append, [], _∷_, _++_, map, append-nil, Memᴰ·append-left, Memᴰ·append-right, List·Memᴰ·append-cases}
+use mathlib.Core.Bool.{Bool, true, false, not, _&&_, _||_}
+use mathlib.Core.Logic.{_↔_}
+use mathlib.Core.List.{List, map-append, [], _∷_, _++_, map, append-nil}
 use native.Mathlib.Omega.{arith}
 use lib.ListN.{length}
 use lib.Dec.{ltb}
-use borrow.Author.Tests.{eqb-true, not-false, not-true, ltb-false}
-use Rattle.texts.specs.Bytes.{Word, Line, any, all, same, among, times, In}
-use Rattle.texts.specs.Terms.{nodes}
-use Rattle.texts.specs.Books.{Agent, Rule, Book, Record, isAgent, isRule, recordsOf, add, noBook, declared, takes, cellsOf, namesOf, lefts, rights, headOf, argsOf, leftArgs, newNames, wordRules, printBook}
-use Rattle.texts.specs.RuleText.{fault6, fault7, fault8, fault9, fault10, wrongArgs, overNames, allDifferent, rightTimes, wrongTimes, samePair, wireOf, within, mirrored, oneSided, Counts, headerLine, ruleLine, counted, rulesOfLines, readRules}
+use borrow.Author.Tests.{not-false, ltb-false}
+use Rattle.texts.specs.Bytes.{Line, any, same, In}
+use Rattle.texts.specs.Books.{Agent, Rule, Book, Record, isAgent, isRule, recordsOf, add, noBook, declared, cellsOf, rights, headOf, newNames, wordRules, printBook}
+use Rattle.texts.specs.RuleText.{fault6, fault9, fault10, samePair, wireOf, within, mirrored, oneSided, Counts, headerLine, ruleLine, counted, rulesOfLines, readRules}
 use Rattle.texts.specs.Answers.{fine, accepted, readLines, after, afterLine}
 use Rattle.texts.specs.Coded.{Table, tableOf}
-use Rattle.texts.specs.Proofs.Tools.{never, both, neither, same-refl, any-false, all-true, among-in, in-among, in-split, Distinct}
+use Rattle.texts.specs.Proofs.Tools.{never, both, neither, pair, noneOf, same-refl, in-split}
 use Rattle.texts.specs.Proofs.RuleMeans.{rules-accepted, lines-good, good-lines, addAll, add-agents, add-rules}
 use Rattle.texts.specs.Good.{Good, GoodFrom, GoodBook, SoundTable}
-use Rattle.texts.specs.Conditions.{SoundRule}
+use Rattle.texts.specs.Proofs.RuleSound.{SoundRule, faults-sound}
 
 -- A book is good exactly where each agent is good after the agents before it, and each rule after all agents and the rules before it.
 good-left : (xs ys : List Record) (b : Book) → GoodFrom b (xs ++ ys) → GoodFrom b xs
@@ -55,69 +54,6 @@ module _ (b : Book) (g : GoodBook b) where
       good-right (map isRule xs) (isRule r ∷ map isRule ys) (record { agents = b .agents; rules = [] }) k in
       rw (add-rules xs (b .agents) []) at (m .0)
 
--- What a good rule satisfies.
-distinct-of : (ws : List Word) → allDifferent ws ≡ true → Distinct ws
-unfolding allDifferent Distinct
-distinct-of [] h = tt
-distinct-of (w ∷ ws) h =
-    let p = both (not (among w ws)) (allDifferent ws) h in
-    (λ m. never (sym (not-true (among w ws) (p .0)) ∙ in-among w ws m), distinct-of ws (p .1))
-
-module _ (b : Book) (r : Rule) (no7 : fault7 b (isRule r) ≡ false) (no8 : fault8 b (isRule r) ≡ false) where
-  parts8 : (all (overNames (b .agents)) (lefts r) ≡ true) × (allDifferent (leftArgs r) ≡ true)
-      × (any (wrongTimes (b .agents) r) (leftArgs r ++ namesOf (b .agents) (rights r)) ≡ false)
-  unfolding fault8
-  parts8 =
-      let p = neither (not (all (overNames (b .agents)) (lefts r)) || not (allDifferent (leftArgs r))) _ no8 in
-      let q = neither (not (all (overNames (b .agents)) (lefts r))) (not (allDifferent (leftArgs r))) (p .0) in
-      (not-false _ (q .0), not-false _ (q .1), p .1)
-
-  parts-left : (overNames (b .agents) (r .first) ≡ true) × (overNames (b .agents) (r .second) ≡ true)
-  unfolding all lefts
-  parts-left =
-      let p = both (overNames (b .agents) (r .first)) _ (parts8 .0) in
-      (p .0, both (overNames (b .agents) (r .second)) true (p .1) .0)
-
-  right-times : (w : Word) → In w (leftArgs r ++ namesOf (b .agents) (rights r)) → times w (namesOf (b .agents) (rights r)) ≡ rightTimes r w
-  unfolding wrongTimes
-  right-times w m =
-      eqb-true _ _ (not-false _ (any-false (wrongTimes (b .agents) r) w (leftArgs r ++ namesOf (b .agents) (rights r)) (parts8 .2) m))
-
-  arg-names : (w : Word) → In w (leftArgs r) → declared (b .agents) w ≡ false
-  unfolding leftArgs overNames
-  arg-names w m =
-      let p = both (declared (b .agents) (headOf (r .first))) _ (parts-left .0) in
-      let q = both (declared (b .agents) (headOf (r .second))) _ (parts-left .1) in
-      let h : not (declared (b .agents) w) ≡ true = ⊎-elim
-      (λ k. all-true (λ v. not (declared (b .agents) v)) w (argsOf (r .first)) (p .1) k)
-      (λ k. all-true (λ v. not (declared (b .agents) v)) w (argsOf (r .second)) (q .1) k)
-      (List·Memᴰ·append-cases (argsOf (r .first)) m) in
-      not-true (declared (b .agents) w) h
-
-  times-once : (w : Word) → In w (leftArgs r) → times w (namesOf (b .agents) (rights r)) ≡ 1
-  unfolding rightTimes
-  times-once w m = right-times w (Memᴰ·append-left _ m) ∙ rw (in-among w (leftArgs r) m)
-
-  times-twice : (w : Word) → In w (namesOf (b .agents) (rights r)) → ¬ In w (leftArgs r) → times w (namesOf (b .agents) (rights r)) ≡ 2
-  unfolding rightTimes
-  times-twice w m k = right-times w (Memᴰ·append-right (leftArgs r) m) ∙ go (among w (leftArgs r)) refl
-    where
-      go : (t : Bool) → among w (leftArgs r) ≡ t → _≡_ {A = ℕ} (cond t 1 2) 2
-      go true e = absurd (k (among-in w (leftArgs r) e))
-      go false e = refl
-
-  pub faults-sound : SoundRule (b .agents) r
-  unfolding overNames fault7 wrongArgs
-  faults-sound = record {
-    first-agent = both (declared (b .agents) (headOf (r .first))) _ (parts-left .0) .0;
-    second-agent = both (declared (b .agents) (headOf (r .second))) _ (parts-left .1) .0;
-    names = arg-names;
-    distinct = distinct-of (leftArgs r) (parts8 .1);
-    arities = λ n m. eqb-true (n .args) (takes (b .agents) (n .word)) (not-false _ (any-false (wrongArgs (b .agents)) n (nodes (lefts r ++ rights r)) no7 m));
-    once = times-once;
-    twice = times-twice;
-  }
-
 pub good-rule-sound : (b : Book) (r : Rule) → Good b (isRule r) → SoundRule (b .agents) r
 good-rule-sound b r g = faults-sound b r (g .no7) (g .no8)
 
@@ -133,10 +69,10 @@ pub record Symmetric (ags : List Agent) (r : Rule) : Type 0 where
   pub into : within (map wireOf (r .right)) (map (mirrored r) (map wireOf (r .right))) ≡ true
   pub back : within (map (mirrored r) (map wireOf (r .right))) (map wireOf (r .right)) ≡ true
 
-symmetric-of : (b : Book) (r : Rule) → Good b (isRule r) → headOf (r .first) ≡ headOf (r .second) → Symmetric (b .agents) r
+pub symmetric-of : (b : Book) (r : Rule) → fault10 b (isRule r) ≡ false → headOf (r .first) ≡ headOf (r .second) → Symmetric (b .agents) r
 unfolding fault10 oneSided
-symmetric-of b r g e =
-    let h : oneSided (b .agents) r ≡ false = right-of (same (headOf (r .first)) (headOf (r .second))) (oneSided (b .agents) r) (rw e (same-refl (headOf (r .second)))) (g .no10) in
+symmetric-of b r no10 e =
+    let h : oneSided (b .agents) r ≡ false = right-of (same (headOf (r .first)) (headOf (r .second))) (oneSided (b .agents) r) (rw e (same-refl (headOf (r .second)))) no10 in
     let p = neither (ltb 0 (length (cellsOf (b .agents) (rights r))) || ltb 0 (length (newNames (b .agents) r))) _ h in
     let q = neither (ltb 0 (length (cellsOf (b .agents) (rights r)))) (ltb 0 (length (newNames (b .agents) r))) (p .0) in
     let u = both (within (map wireOf (r .right)) (map (mirrored r) (map wireOf (r .right)))) _ (not-false _ (p .1)) in
@@ -145,6 +81,14 @@ symmetric-of b r g e =
     right-of : (t u : Bool) → t ≡ true → (t && u) ≡ false → u ≡ false
     right-of true u h k = k
     right-of false u h k = never h
+
+pub of-symmetric : (ags : List Agent) (r : Rule) → Symmetric ags r → oneSided ags r ≡ false
+unfolding oneSided
+of-symmetric ags r h =
+    noneOf (ltb 0 (length (cellsOf ags (rights r))) || ltb 0 (length (newNames ags r))) _
+    (noneOf (ltb 0 (length (cellsOf ags (rights r)))) (ltb 0 (length (newNames ags r)))
+    (ap (λ l. ltb 0 (length l)) (h .no-cells)) (ap (λ l. ltb 0 (length l)) (h .no-new)))
+    (ap not (pair (within (map wireOf (r .right)) (map (mirrored r) (map wireOf (r .right)))) _ (h .into) (h .back)))
 
 pub record SoundBook (b : Book) : Type 0 where
   -- symbols are declared once
@@ -162,7 +106,7 @@ good-sound b g = record {
   symbols = λ xs ys a e. (agent-good b g xs ys a e) .no6;
   rules-sound = λ r m. let p = in-split r (b .rules) m in good-rule-sound (record { agents = b .agents; rules = p .0 }) r (rule-good b g (p .0) (p .1) r (p .2));
   one-each = λ xs ys r e. (rule-good b g xs ys r e) .no9;
-  self-rules = λ r m e. let p = in-split r (b .rules) m in symmetric-of (record { agents = b .agents; rules = p .0 }) r (rule-good b g (p .0) (p .1) r (p .2)) e;
+  self-rules = λ r m e. let p = in-split r (b .rules) m in symmetric-of (record { agents = b .agents; rules = p .0 }) r ((rule-good b g (p .0) (p .1) r (p .2)) .no10) e;
 }
 
 -- An accepted text means a sound book.

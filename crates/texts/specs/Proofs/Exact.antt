@@ -23,7 +23,7 @@ use Rattle.texts.specs.Proofs.Forward.{table-pass}
 use Rattle.texts.specs.Proofs.Backward.{rule, template-back}
 use Rattle.texts.specs.Proofs.Faultless.{no-7, no-8, no-10, no-big, spelt, sound-rule}
 use Rattle.texts.specs.Good.{Good, GoodFrom, GoodBook, Spelt, Placed, SoundTable}
-use Rattle.texts.specs.Conditions.{SoundRule}
+use Rattle.texts.specs.Proofs.RuleSound.{SoundRule}
 
 -- A sound table passes.
 pub sound-passes : (t : Table) → SoundTable t → testTable t ≡ true
@@ -58,7 +58,7 @@ module _ (ags : List Agent) (ha : testAgents [] ags ≡ true) (la : length ags �
         no6 = refl;
         no7 = no-7 ags t ha ht qs;
         no8 = no-8 ags t ha ht qs;
-        no9 = sym (pair-table ags (rule ags t ha ht) qs (s .first-agent) (s .second-agent) h) ∙ (ap (λ i. any (pairTest i (symbolOf ags (headOf (rule ags t ha ht .second)))) (map (template ags) qs)) x ∙ (ap (λ i. any (pairTest (t .left) i) (map (template ags) qs)) y ∙ n));
+        no9 = sym (pair-table ags (rule ags t ha ht) qs (s .named .first-agent) (s .named .second-agent) h) ∙ (ap (λ i. any (pairTest i (symbolOf ags (headOf (rule ags t ha ht .second)))) (map (template ags) qs)) x ∙ (ap (λ i. any (pairTest (t .left) i) (map (template ags) qs)) y ∙ n));
         no10 = no-10 ags t ha ht qs;
       }
 

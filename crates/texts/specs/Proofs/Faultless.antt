@@ -9,16 +9,15 @@ use lib.ListN.{length}
 use lib.Dec.{eqb, ltb}
 use borrow.Author.Tests.{eqb-true, le-ltb, eq-eqb}
 use Rattle.parts.specs.Limits.{level-max, identifier-max, rule-equations-max, rule-cells-max, rule-names-max}
-use Rattle.texts.specs.Bytes.{Word, times, any, all, same, among, In}
+use Rattle.texts.specs.Bytes.{Word, times, any, all, same, among, In, Distinct}
 use Rattle.texts.specs.Terms.{count, identifier, Node, nodesIn, nodes, worded, wordeds}
 use Rattle.texts.specs.Books.{Agent, Rule, isRule, declared, takes, lefts, rights, headOf, argsOf, leftArgs, cellsOf, namesOf, newNames}
 use Rattle.texts.specs.RuleText.{allDifferent, wrongArgs, bigNode, tooLong, overNames, rightTimes, wrongTimes, bigRecord, fault7, fault8, fault10, oneSided, within, mirrored, wireOf}
 use Rattle.parts.specs.Sides.{name}
 use Rattle.model.specs.Table.{Entry}
 use Rattle.texts.specs.Coded.{symbolOf, second-from, new-from, ruleNumber, template, arityAt, unpaired}
-use Rattle.texts.specs.Proofs.Tools.{both, pair, noneOf, Distinct, false-any, all-true, any-append, same-eq, empty}
+use Rattle.texts.specs.Proofs.Tools.{both, pair, noneOf, false-any, all-true, any-append, same-eq, empty}
 use Rattle.texts.specs.Proofs.Linear.{takes-name}
-use Rattle.texts.specs.Proofs.BookSound.{faults-sound}
 use Rattle.texts.specs.Proofs.Selves.{codes-back, into-back}
 use Rattle.texts.specs.Proofs.Templates.{Few, template-cells, template-count, cell-none, name-cell, name-name, tally-ext}
 use Rattle.texts.specs.Proofs.NetMeans.{nodes-append}
@@ -30,8 +29,8 @@ use Rattle.texts.specs.Proofs.Renumbered.{row-length, row-in, row-none, 
 use Rattle.texts.specs.Proofs.Backward.{clauses, few-left, small-code, good-sides, built, args-are, rights-are, met-names, heads-are, first-at, second-at, right-not, new-not, arg-code, arg-plain, arg-undeclared, new-count, code-of, template-back}
 use Rattle.texts.specs.Proofs.Backward as Back
 use Rattle.texts.specs.Good.{Spelt}
-use Rattle.texts.specs.Conditions.{SoundRule}
-use Rattle.texts.specs.Proofs.RuleSound.{of-distinct}
+use Rattle.texts.specs.Proofs.RuleSound.{SoundRule, faults-sound, of-distinct}
+use Rattle.texts.specs.Proofs.BookSound.{of-symmetric}
 use Rattle.texts.specs.Proofs.TermLists.{unpack, unpack-length, bareTerms, bare-heads, named, met-all, among-append, nodes-unpack, worded-unpack, pairs-length, bare-any, bare-worded, two-any, distinct-append, map-in}
 
 module _ (ags : List Agent) (t : Entry) (ha : testAgents [] ags ≡ true) (ht : testTemplate ags t ≡ true) where
@@ -233,7 +232,6 @@ module _ (ags : List Agent) (t : Entry) (ha : testAgents [] ags ≡ true) (ht : 
       (eqb-true (length (t .cells)) 0 (q .0), eqb-true (t .fresh) 0 (q .1), p .1)
 
   two-sided : t .left ≡ t .right → oneSided ags rule ≡ false
-  unfolding oneSided
   two-sided e =
       let p = self-parts e in
       let c : length (t .cells) ≡ length (cellsOf ags (rights rule)) = ap (λ u. length (u .cells)) (sym (template-back ags t ha ht)) ∙ template-cells ags rule right-ok in
@@ -243,10 +241,7 @@ module _ (ags : List Agent) (t : Entry) (ha : testAgents [] ags ≡ true) (ht : 
       ap length (args-are ags t ha ht .0) ∙ (rows .0 ∙ (ap (arityAt ags) e ∙ (sym (rows .1) ∙ sym (ap length (args-are ags t ha ht .1))))) in
       let b : within (map (mirrored rule) (map wireOf (rule .right))) (map wireOf (rule .right)) ≡ true =
       sym (codes-back ags rule sound-rule nc nn few-args-of even) ∙ (ap (λ u. all (λ d. any (turnsTo d) (u .body)) (u .body)) (template-back ags t ha ht) ∙ p .2) in
-      noneOf (ltb 0 (length (cellsOf ags (rights rule))) || ltb 0 (length (newNames ags rule))) _
-      (noneOf (ltb 0 (length (cellsOf ags (rights rule)))) (ltb 0 (length (newNames ags rule)))
-      (ap (λ l. ltb 0 (length l)) nc) (ap (λ l. ltb 0 (length l)) nn))
-      (ap not (pair (within (map wireOf (rule .right)) (map (mirrored rule) (map wireOf (rule .right)))) _ (into-back ags rule sound-rule nc nn few-args-of even ∙ b) b))
+      of-symmetric ags rule (record { no-cells = nc; no-new = nn; into = into-back ags rule sound-rule nc nn few-args-of even ∙ b; back = b })
 
   pub no-10 : (qs : List Rule) → fault10 (record { agents = ags; rules = qs }) (isRule rule) ≡ false
   unfolding fault10

@@ -44,7 +44,7 @@ module _ (b : Book) (g : GoodBook b) where
           let z = heads-are r in
           let q′ : (template (b .agents) r) .left ≡ (template (b .agents) r) .right = eqb-true ((template (b .agents) r) .left) ((template (b .agents) r) .right) e in
           let q : symbolOf (b .agents) (headOf (r .first)) ≡ symbolOf (b .agents) (headOf (r .second)) = sym (z .0) ∙ (q′ ∙ z .1) in
-          let w : same (headOf (r .first)) (headOf (r .second)) ≡ true = sym (symbol-same (b .agents) (headOf (r .first)) (headOf (r .second)) (s .first-agent) (s .second-agent)) ∙ eq-eqb _ _ q in
+          let w : same (headOf (r .first)) (headOf (r .second)) ≡ true = sym (symbol-same (b .agents) (headOf (r .first)) (headOf (r .second)) (s .named .first-agent) (s .named .second-agent)) ∙ eq-eqb _ _ q in
           let y = sb .self-rules r m (same-eq _ _ w) in
           let even : length (argsOf (r .first)) ≡ length (argsOf (r .second)) = first-arity (b .agents) r s ∙ (ap (arityAt (b .agents)) q′ ∙ sym (second-arity (b .agents) r s)) in
           pair (eqb (length ((template (b .agents) r) .cells)) 0 && eqb ((template (b .agents) r) .fresh) 0) _
@@ -81,7 +81,7 @@ module _ (b : Book) (g : GoodBook b) where
   pair-pass xs r h m k =
       let sb = good-sound b g in
       let s = sb .rules-sound r m in
-      ap not (pair-table (b .agents) r xs (s .first-agent) (s .second-agent) (λ q n. sb .rules-sound q (h q n)) ∙ k)
+      ap not (pair-table (b .agents) r xs (s .named .first-agent) (s .named .second-agent) (λ q n. sb .rules-sound q (h q n)) ∙ k)
 
   none-before : (xs : List Rule) (r : Rule) → fault9 (record { agents = b .agents; rules = xs }) (isRule r) ≡ false → any (samePair r) xs ≡ false
   unfolding fault9

@@ -81,9 +81,9 @@ even-map f (x ∷ y ∷ xs) = even-map f xs
 -- Headers.
 -- the counts can be written.
 abbrev pub Small : Counts → Type 0
-Small c = (c .first < 10000) × (c .second < 10000)
+Small c = (c .upper < 10000) × (c .lower < 10000)
 
-header-of : (w : Word) (fs : List Word) (c : Counts) → headerOf w fs ≡ some c → (w ∷ decimal (c .first) ∷ decimal (c .second) ∷ [] ≡ fs) × Small c
+header-of : (w : Word) (fs : List Word) (c : Counts) → headerOf w fs ≡ some c → (w ∷ decimal (c .upper) ∷ decimal (c .lower) ∷ [] ≡ fs) × Small c
 unfolding headerOf
 header-of w [] c h = nothing h
 header-of w (f ∷ []) c h = nothing h
@@ -91,21 +91,21 @@ header-of w (f ∷ m ∷ []) c h = nothing h
 header-of w (f ∷ m ∷ n ∷ []) c h = go (same f w) refl h
   where
     go : (t : Bool) → same f w ≡ t
-        → cond t (numberOf m >>= λ a. numberOf n >>= λ b. some (record { first = a; second = b })) none ≡ some c
-        → (w ∷ decimal (c .first) ∷ decimal (c .second) ∷ [] ≡ f ∷ m ∷ n ∷ []) × Small c
+        → cond t (numberOf m >>= λ a. numberOf n >>= λ b. some (record { upper = a; lower = b })) none ≡ some c
+        → (w ∷ decimal (c .upper) ∷ decimal (c .lower) ∷ [] ≡ f ∷ m ∷ n ∷ []) × Small c
     go true e k =
         let p = found (numberOf m) _ k in
         let q = found (numberOf n) _ (p .2) in
         let a = decimal-number m (p .0) (p .1) in
         let b = decimal-number n (q .0) (q .1) in
-        let z : _≡_ {A = Counts} (record { first = p .0; second = q .0 }) c = cc (q .2) in
+        let z : _≡_ {A = Counts} (record { upper = p .0; lower = q .0 }) c = cc (q .2) in
         rw (← z) (rw (a .0, b .0, same-eq f w e), (a .1, b .1))
     go false e k = nothing k
 header-of w (f ∷ m ∷ n ∷ g ∷ gs) c h = nothing h
 
-of-header : (w : Word) (c : Counts) → Small c → headerOf w (w ∷ decimal (c .first) ∷ decimal (c .second) ∷ []) ≡ some c
+of-header : (w : Word) (c : Counts) → Small c → headerOf w (w ∷ decimal (c .upper) ∷ decimal (c .lower) ∷ []) ≡ some c
 unfolding headerOf _>>=_
-of-header w c s = rw (same-refl w, number-decimal (c .first) (s .0), number-decimal (c .second) (s .1))
+of-header w c s = rw (same-refl w, number-decimal (c .upper) (s .0), number-decimal (c .lower) (s .1))
 
 pub some-plain : (w : Word) (ws : List Word) → Plain w → Plains ws → Plains (w ∷ ws)
 unfolding all
@@ -116,11 +116,11 @@ unfolding all
 two v w h k = some-plain v (w ∷ []) h (some-plain w [] k refl)
 
 pub header-fine : (w : Word) → all wordByte w ≡ true → (l : Line) (c : Counts)
-    → (headerLine w l ≡ fine c) ↔ ((l ≡ endedLine (writeHeader w (c .first) (c .second))) × Small c)
+    → (headerLine w l ≡ fine c) ↔ ((l ≡ endedLine (writeHeader w (c .upper) (c .lower))) × Small c)
 unfolding headerLine writeHeader refuse need endedLine
 header-fine w ok l c = (to, from)
   where
-    to : headerLine w l ≡ fine c → (l ≡ endedLine (writeHeader w (c .first) (c .second))) × Small c
+    to : headerLine w l ≡ fine c → (l ≡ endedLine (writeHeader w (c .upper) (c .lower))) × Small c
     to h =
         let p = refuse-fine 2 (fault2 l) _ h in
         let q = need-fine 3 (headerOf w (fields (l .bytes))) fine (p .1) in
@@ -128,12 +128,12 @@ header-fine w ok l c = (to, from)
         let r = header-of w (fields (l .bytes)) c (q .1 ∙ ap some z) in
         (line-ended l (p .0) ∙ ap endedLine (sym (line-fields (l .bytes) w _ (sym (r .0)))), r .1)
 
-    from : (l ≡ endedLine (writeHeader w (c .first) (c .second))) × Small c → headerLine w l ≡ fine c
+    from : (l ≡ endedLine (writeHeader w (c .upper) (c .lower))) × Small c → headerLine w l ≡ fine c
     from (e, s) =
-        let d : Plains (decimal (c .first) ∷ decimal (c .second) ∷ []) = two (decimal (c .first)) (decimal (c .second)) (decimal-plain (c .first) (s .0)) (decimal-plain (c .second) (s .1)) in
+        let d : Plains (decimal (c .upper) ∷ decimal (c .lower) ∷ []) = two (decimal (c .upper)) (decimal (c .lower)) (decimal-plain (c .upper) (s .0)) (decimal-plain (c .lower) (s .1)) in
         rw (
           e,
-          line-bytes w (decimal (c .first) ∷ decimal (c .second) ∷ []) (word-plain w ok) d,
-          fields-line w (decimal (c .first) ∷ decimal (c .second) ∷ []) (line-tabs _ (some-plain w _ (word-plain w ok) d)),
+          line-bytes w (decimal (c .upper) ∷ decimal (c .lower) ∷ []) (word-plain w ok) d,
+          fields-line w (decimal (c .upper) ∷ decimal (c .lower) ∷ []) (line-tabs _ (some-plain w _ (word-plain w ok) d)),
           of-header w c s,
         )

@@ -15,7 +15,7 @@ use Rattle.texts.specs.Terms.{Term}
 use Rattle.texts.specs.Books.{Agent, Net, namesOf, netTerms, wordNet}
 use Rattle.texts.specs.Answers.{fine, fault, OfText, refused, absent, holds, _>>=_, need, readLines, after}
 use Rattle.texts.specs.RuleText.{Counts, headerLine, termsOf}
-use Rattle.texts.specs.NetText.{faceFields, eqFields, netFault5, netFault7, netJudged, faceNet, moreNet, faceLine, eqLine, loose, netLines, looseLine, unlessLoose, tied, netCounted, faceAndEqs, netOfLines, readNet}
+use Rattle.texts.specs.NetText.{faceFields, eqFields, netFault5, netFault7, netJudged, faceNet, moreNet, faceLine, eqLine, loose, netLines, looseLine, unlessLoose, namesTwice, netCounted, faceAndEqs, netOfLines, readNet}
 use Rattle.texts.specs.Proofs.Tools.{neither, any-true, any-false}
 use Rattle.texts.specs.Proofs.Firsts.{Agrees, agrees-fine, agrees-skip, agrees-refuse, agrees-none, agrees-some, agrees-first}
 use Rattle.texts.specs.Proofs.Reading.{lines-accepted, lines-refused, After, before, behind, after-refused, AfterLine, here, later, line-refused}
@@ -111,9 +111,9 @@ loose-first ags names tss i l =
           (e, λ z. ne (ap (λ (x : Word). times x names) (sym z) ∙ e)),
     )
 
-tied-exact : (ags : List Agent) (n : Net) (m j : ℕ) → (tied ags n ≡ refused m j) ↔ ((i : ℕ) × Loose ags n i × (m ≡ 8) × (j ≡ 2 + i))
-unfolding tied unlessLoose
-tied-exact ags n m j = (to (looseLine ags (namesOf ags (netTerms n)) 2 (netLines n)) refl, from)
+twice-exact : (ags : List Agent) (n : Net) (m j : ℕ) → (namesTwice ags n ≡ refused m j) ↔ ((i : ℕ) × Loose ags n i × (m ≡ 8) × (j ≡ 2 + i))
+unfolding namesTwice unlessLoose
+twice-exact ags n m j = (to (looseLine ags (namesOf ags (netTerms n)) 2 (netLines n)) refl, from)
   where
     to : (o : Option ℕ) → looseLine ags (namesOf ags (netTerms n)) 2 (netLines n) ≡ o → unlessLoose o n ≡ refused m j
         → (i : ℕ) × Loose ags n i × (m ≡ 8) × (j ≡ 2 + i)
@@ -124,7 +124,7 @@ tied-exact ags n m j = (to (looseLine ags (namesOf ags (netTerms n)) 2 (netLines
         let y : k ≡ j = cc in
         (p .0, p .2, sym x, sym y ∙ p .1)
 
-    from : (i : ℕ) × Loose ags n i × (m ≡ 8) × (j ≡ 2 + i) → tied ags n ≡ refused m j
+    from : (i : ℕ) × Loose ags n i × (m ≡ 8) × (j ≡ 2 + i) → namesTwice ags n ≡ refused m j
     from (i, l, x, y) =
         let e : looseLine ags (namesOf ags (netTerms n)) 2 (netLines n) ≡ some (2 + length (l .good)) = rw (l .parts)
         (from-loose ags (namesOf ags (netTerms n)) (l .good) (l .bad) (l .rest) 2 (l .none-before) (l .loose-here)) in
@@ -137,12 +137,12 @@ module _ (ags : List Agent) (n j : ℕ) where
 
   last : (l f : Line) (ls : List Line) (c : Counts) → headerLine wordNet l ≡ fine c → (m : Net) → faceLine ags f ≡ fine m
       → (net : Net) → Reads (eqLine ags) m ls net
-      → ((c .first ≡ length (net .face)) × (c .second ≡ length (net .equations)) × (tied ags net ≡ refused n j))
-      ⊎ ((¬ ((c .first ≡ length (net .face)) × (c .second ≡ length (net .equations)))) × (n ≡ 11) × (j ≡ 1))
+      → ((c .upper ≡ length (net .face)) × (c .lower ≡ length (net .equations)) × (namesTwice ags net ≡ refused n j))
+      ⊎ ((¬ ((c .upper ≡ length (net .face)) × (c .lower ≡ length (net .equations)))) × (n ≡ 11) × (j ≡ 1))
       → NetLinesRefused ags (l ∷ f ∷ ls) n j
   unfolding NetCounted
   last l f ls c e m fe net r (inl (p, q, x)) =
-      let t = tied-exact ags net n j .0 x in badName l f ls refl c e m fe net r (p, q) (t .0) (t .1) (t .2) (t .3)
+      let t = twice-exact ags net n j .0 x in badName l f ls refl c e m fe net r (p, q) (t .0) (t .1) (t .2) (t .3)
   last l f ls c e m fe net r (inr (u, x, y)) = badCount l f ls refl c e m fe net r u x y
 
   mid : (l f : Line) (ls : List Line) (c : Counts) → headerLine wordNet l ≡ fine c → (m : Net) → faceLine ags f ≡ fine m
@@ -152,7 +152,7 @@ module _ (ags : List Agent) (n j : ℕ) where
       let p = lines-refused (eqLine ags) 3 m ls n j .0 k in badLine l f ls refl c e m fe (p .0) (p .2) (p .1)
   mid l f ls c e m fe (behind net k x) =
       last l f ls c e m fe net (lines-accepted (eqLine ags) 3 m ls net .0 k)
-      (counts-exact (c .first) (c .second) (length (net .face)) (length (net .equations)) n j (tied ags net) .0 x)
+      (counts-exact (c .upper) (c .lower) (length (net .face)) (length (net .equations)) n j (namesTwice ags net) .0 x)
 
   face : (l f : Line) (ls : List Line) (c : Counts) → headerLine wordNet l ≡ fine c
       → AfterLine 2 (faceLine ags f) (rest-of c ls) n j → NetLinesRefused ags (l ∷ f ∷ ls) n j
@@ -182,13 +182,13 @@ module _ (ags : List Agent) (n j : ℕ) where
   by-face f rest c m k x = line-refused 2 (faceLine ags f) _ n j .1 (later m k x)
 
   by-lines : (rest : List Line) (c : Counts) (m net : Net) → Reads (eqLine ags) m rest net
-      → ((c .first ≡ length (net .face)) × (c .second ≡ length (net .equations)) × (tied ags net ≡ refused n j))
-      ⊎ ((¬ ((c .first ≡ length (net .face)) × (c .second ≡ length (net .equations)))) × (n ≡ 11) × (j ≡ 1))
+      → ((c .upper ≡ length (net .face)) × (c .lower ≡ length (net .equations)) × (namesTwice ags net ≡ refused n j))
+      ⊎ ((¬ ((c .upper ≡ length (net .face)) × (c .lower ≡ length (net .equations)))) × (n ≡ 11) × (j ≡ 1))
       → rest-of c rest m ≡ refused n j
   unfolding netCounted
   by-lines rest c m net r w =
       after-refused (readLines (eqLine ags) 3 m rest) (netCounted ags c) n j .1 (behind net (lines-accepted (eqLine ags) 3 m rest net .1 r)
-      (counts-exact (c .first) (c .second) (length (net .face)) (length (net .equations)) n j (tied ags net) .1 w))
+      (counts-exact (c .upper) (c .lower) (length (net .face)) (length (net .equations)) n j (namesTwice ags net) .1 w))
 
   from-lines : (ls : List Line) → NetLinesRefused ags ls n j → netOfLines ags ls ≡ refused n j
   unfolding netOfLines faceAndEqs NetCounted
@@ -203,7 +203,7 @@ module _ (ags : List Agent) (n j : ℕ) where
   from-lines ls (badCount h f rest e c k m fe net r u x y) =
       rw e (by-header h (f ∷ rest) c k (by-face f rest c m fe (by-lines rest c m net r (inr (u, x, y)))))
   from-lines ls (badName h f rest e c k m fe net r w i l x y) =
-      rw e (by-header h (f ∷ rest) c k (by-face f rest c m fe (by-lines rest c m net r (inl (w .0, w .1, tied-exact ags net n j .1 (i, l, x, y))))))
+      rw e (by-header h (f ∷ rest) c k (by-face f rest c m fe (by-lines rest c m net r (inl (w .0, w .1, twice-exact ags net n j .1 (i, l, x, y))))))
 
 -- A net text is refused with number n and line j exactly so.
 pub net-refused : (ags : List Agent) (text : List ℕ) (n j : ℕ) → (readNet ags text ≡ refused n j) ↔ NetRefused ags text n j

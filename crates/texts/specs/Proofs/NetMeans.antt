@@ -15,7 +15,7 @@ use Rattle.texts.specs.Terms.{Term, spell, Node, nodes, wordsOf}
 use Rattle.texts.specs.Books.{Agent, Equation, Net, declared, writeHeader, writeFace, writeEquation, printNet, sides, pairs, cellsOf, namesOf, netTerms, wordNet, wordFace, wordEq}
 use Rattle.texts.specs.Answers.{fine, accepted, refused, readLines}
 use Rattle.texts.specs.RuleText.{Counts, headerLine, bigNode}
-use Rattle.texts.specs.NetText.{bigNet, netFault5, faceNet, moreNet, faceLine, eqLine, loose, netLines, looseLine, unlessLoose, tied, netCounted, faceAndEqs, netOfLines, readNet}
+use Rattle.texts.specs.NetText.{bigNet, netFault5, faceNet, moreNet, faceLine, eqLine, loose, netLines, looseLine, unlessLoose, namesTwice, netCounted, faceAndEqs, netOfLines, readNet}
 use Rattle.texts.specs.Proofs.Tools.{both, pair, neither, any-append, keep-append, cons-eq}
 use Rattle.texts.specs.Proofs.Splitting.{free, endedLine, text-ended, lines-text}
 use Rattle.texts.specs.Proofs.Plain.{word-plain, spells-plain, decimal-plain, line-newlines}
@@ -114,9 +114,9 @@ from-none ags names k (ts ∷ tss) h =
     rw (p .0) (from-none ags names (suc k) tss (p .1))
 
 -- No line is loose exactly where no name is.
-tied-accepted : (ags : List Agent) (n n′ : Net) → (tied ags n ≡ accepted n′) ↔ ((any (loose (namesOf ags (netTerms n))) (namesOf ags (netTerms n)) ≡ false) × (n ≡ n′))
-unfolding tied unlessLoose
-tied-accepted ags n n′ = (to (looseLine ags names 2 (netLines n)) refl, from)
+twice-accepted : (ags : List Agent) (n n′ : Net) → (namesTwice ags n ≡ accepted n′) ↔ ((any (loose (namesOf ags (netTerms n))) (namesOf ags (netTerms n)) ≡ false) × (n ≡ n′))
+unfolding namesTwice unlessLoose
+twice-accepted ags n n′ = (to (looseLine ags names 2 (netLines n)) refl, from)
   where
     names : List Word
     names = namesOf ags (netTerms n)
@@ -126,7 +126,7 @@ tied-accepted ags n n′ = (to (looseLine ags names 2 (netLines n)) refl, from)
     to none e h = (rw flat-lines at (to-none ags (namesOf ags (netTerms n)) 2 (netLines n) e), (let z : n ≡ n′ = cc in z))
     to (some k) e h = absurd (let z : _≡_ {A = ℕ} 0 1 = cc in omega arith)
 
-    from : (any (loose (namesOf ags (netTerms n))) (namesOf ags (netTerms n)) ≡ false) × (n ≡ n′) → tied ags n ≡ accepted n′
+    from : (any (loose (namesOf ags (netTerms n))) (namesOf ags (netTerms n)) ≡ false) × (n ≡ n′) → namesTwice ags n ≡ accepted n′
     from (h, z) = rw (from-none ags (namesOf ags (netTerms n)) 2 (netLines n) (rw flat-lines h), z)
 
 -- The whole text.
@@ -135,25 +135,25 @@ unfolding all wordByte letter digit
 word-net = refl
 
 abbrev countsOf : Net → Counts
-countsOf n = record { first = length (n .face); second = length (n .equations) }
+countsOf n = record { upper = length (n .face); lower = length (n .equations) }
 
 abbrev headOf : Net → List ℕ
 headOf n = writeHeader wordNet (length (n .face)) (length (n .equations))
 
-counts-are : (c : Counts) (a b : Net) → c .first ≡ length (a .face) → c .second ≡ length (a .equations) → a ≡ b → c ≡ countsOf b
+counts-are : (c : Counts) (a b : Net) → c .upper ≡ length (a .face) → c .lower ≡ length (a .equations) → a ≡ b → c ≡ countsOf b
 counts-are c a b x y z = rw (← z, ← x, ← y)
 
 counted-accepted : (ags : List Agent) (c : Counts) (a b : Net) → netCounted ags c a ≡ accepted b
     → (c ≡ countsOf b) × (any (loose (namesOf ags (netTerms a))) (namesOf ags (netTerms a)) ≡ false) × (a ≡ b)
 unfolding netCounted
-counted-accepted ags c a b h = go (eqb (c .first) (length (a .face)) && eqb (c .second) (length (a .equations))) refl h
+counted-accepted ags c a b h = go (eqb (c .upper) (length (a .face)) && eqb (c .lower) (length (a .equations))) refl h
   where
-    go : (t : Bool) → (eqb (c .first) (length (a .face)) && eqb (c .second) (length (a .equations))) ≡ t → cond t (tied ags a) (refused 11 1) ≡ accepted b
+    go : (t : Bool) → (eqb (c .upper) (length (a .face)) && eqb (c .lower) (length (a .equations))) ≡ t → cond t (namesTwice ags a) (refused 11 1) ≡ accepted b
         → (c ≡ countsOf b) × (any (loose (namesOf ags (netTerms a))) (namesOf ags (netTerms a)) ≡ false) × (a ≡ b)
     go true e k =
-        let p = both (eqb (c .first) (length (a .face))) _ e in
-        let q = tied-accepted ags a b .0 k in
-        (counts-are c a b (eqb-true (c .first) (length (a .face)) (p .0)) (eqb-true (c .second) (length (a .equations)) (p .1)) (q .1), q .0, q .1)
+        let p = both (eqb (c .upper) (length (a .face))) _ e in
+        let q = twice-accepted ags a b .0 k in
+        (counts-are c a b (eqb-true (c .upper) (length (a .face)) (p .0)) (eqb-true (c .lower) (length (a .equations)) (p .1)) (q .1), q .0, q .1)
     go false e k = absurd (let z : _≡_ {A = ℕ} 0 1 = cc in omega arith)
 
 -- Sizes.
@@ -257,7 +257,7 @@ from-printed ags n g =
           lines-accepted (eqLine ags) 3 (faceNet (n .face)) (map lineFor (n .equations)) n .1
               (rw face-all at (of-equations ags (n .equations) (faceNet (n .face)) (g .good-equations))),
           rw (eq-eqb (length (n .face)) (length (n .face)) refl, eq-eqb (length (n .equations)) (length (n .equations)) refl)
-              (tied-accepted ags n n .1 (g .twice, refl)),
+              (twice-accepted ags n n .1 (g .twice, refl)),
         ),
       ),
     )

@@ -36,7 +36,7 @@ use Rattle.texts.specs.Proofs.TableSound.{load-sound}
 use Rattle.texts.specs.Proofs.CellReading.{walked, name-count, sidewise, Held}
 use Rattle.texts.specs.Proofs.Trees.{from-append, held-left, held-right, read-terms, read-equations}
 use Rattle.texts.specs.Good.{GoodNet}
-use Rattle.texts.specs.Conditions.{SoundRule}
+use Rattle.texts.specs.Proofs.RuleSound.{SoundRule}
 use Rattle.texts.specs.Proofs.Rows.{in-order, all-at, from-in, from-out}
 
 -- The number of cells, counted in words and in terms.

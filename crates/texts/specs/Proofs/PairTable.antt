@@ -11,7 +11,7 @@ use Rattle.texts.specs.Coded.{symbolOf, template}
 use Rattle.texts.specs.TableTest.{pairTest}
 use Rattle.texts.specs.Proofs.Tools.{never, same-refl, same-eq}
 use Rattle.texts.specs.Proofs.Places.{same-turn}
-use Rattle.texts.specs.Conditions.{SoundRule}
+use Rattle.texts.specs.Proofs.RuleSound.{SoundRule}
 
 index-same : (xs : List Word) (v w : Word) → among v xs ≡ true → among w xs ≡ true → eqb (indexOf v xs) (indexOf w xs) ≡ same v w
 unfolding indexOf among any
@@ -45,9 +45,9 @@ pair-table ags r [] d e h = refl
 pair-table ags r (q ∷ qs) d e h =
     let s = h q (List·Memᴰ·head refl) in
     rw (
-      symbol-same ags (headOf (r .first)) (headOf (q .first)) d (s .first-agent),
-      symbol-same ags (headOf (r .second)) (headOf (q .second)) e (s .second-agent),
-      symbol-same ags (headOf (r .first)) (headOf (q .second)) d (s .second-agent),
-      symbol-same ags (headOf (r .second)) (headOf (q .first)) e (s .first-agent),
+      symbol-same ags (headOf (r .first)) (headOf (q .first)) d (s .named .first-agent),
+      symbol-same ags (headOf (r .second)) (headOf (q .second)) e (s .named .second-agent),
+      symbol-same ags (headOf (r .first)) (headOf (q .second)) d (s .named .second-agent),
+      symbol-same ags (headOf (r .second)) (headOf (q .first)) e (s .named .first-agent),
       pair-table ags r qs d e (λ p m. h p (List·Memᴰ·tail m)),
     )

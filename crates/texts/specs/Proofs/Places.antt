@@ -8,9 +8,9 @@ use native.Mathlib.Omega.{arith}
 use lib.ListN.{length}
 use lib.Dec.{eqb, eqb·zero-suc, eqb·suc-zero, eqb·suc-suc}
 use borrow.Author.Tests.{eqb-true, ne-eqb}
-use Rattle.texts.specs.Bytes.{Word, any, keep, same, among, different, indexOf, In}
+use Rattle.texts.specs.Bytes.{Word, any, keep, same, among, different, indexOf, In, Distinct}
 use Rattle.texts.specs.RuleText.{wordAt}
-use Rattle.texts.specs.Proofs.Tools.{never, neither, same-refl, same-eq, among-in, in-among, Distinct}
+use Rattle.texts.specs.Proofs.Tools.{never, neither, same-refl, same-eq, among-in, in-among}
 
 pub same-turn : (v w : Word) → same v w ≡ same w v
 same-turn v w = go (same v w) (same w v) refl refl

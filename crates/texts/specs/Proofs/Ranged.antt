@@ -23,7 +23,7 @@ use Rattle.texts.specs.Proofs.TableSound.{head-arity}
 use Rattle.texts.specs.TableTest.{allCodes, codeOk, walk, met, void, ahead, onward, numbered}
 use Rattle.texts.specs.Proofs.SideWalk.{walk-terms, met-terms}
 use Rattle.texts.specs.Proofs.Numbering.{numbered-all, tally-zero}
-use Rattle.texts.specs.Conditions.{SoundRule}
+use Rattle.texts.specs.Proofs.RuleSound.{SoundRule}
 
 walk-nil : (m : ℕ) → walk m [] [] ≡ true
 unfolding walk onward void
@@ -82,8 +82,8 @@ module _ (ags : List Agent) (r : Rule) (s : SoundRule ags r) where
       let p = keep-in (λ v. not (declared ags v)) w (wordsOf (nodes (r .first ∷ r .second ∷ []))) m in
       let n : declared ags w ≡ false = not-true _ (p .1) in
       let k : In w (words (r .first) ++ (words (r .second) ++ [])) = rw (words-all (r .first ∷ r .second ∷ [])) at (p .0) in
-      ⊎-elim (λ j. Memᴰ·append-left ys (term-words ags (r .first) w (left-bare .0) (s .first-agent) (λ v i. s .names v (Memᴰ·append-left ys i)) j n))
-      (λ j. Memᴰ·append-right xs (term-words ags (r .second) w (left-bare .1) (s .second-agent) (λ v i. s .names v (Memᴰ·append-right xs i))
+      ⊎-elim (λ j. Memᴰ·append-left ys (term-words ags (r .first) w (left-bare .0) (s .named .first-agent) (λ v i. s .named .names v (Memᴰ·append-left ys i)) j n))
+      (λ j. Memᴰ·append-right xs (term-words ags (r .second) w (left-bare .1) (s .named .second-agent) (λ v i. s .named .names v (Memᴰ·append-right xs i))
       (rw (append-nil (words (r .second))) at j) n))
       (List·Memᴰ·append-cases (words (r .first)) k)
 
@@ -139,10 +139,10 @@ module _ (ags : List Agent) (r : Rule) (s : SoundRule ags r) where
   names-left w m =
       in-keep (λ v. not (declared ags v)) w (wordsOf (nodes (r .first ∷ r .second ∷ [])))
       (rw (words-all (r .first ∷ r .second ∷ []))
-      (⊎-elim (λ j. Memᴰ·append-left (words (r .second) ++ []) (words-term ags (r .first) w (left-bare .0) (λ v i. s .names v (Memᴰ·append-left ys i)) j))
-      (λ j. Memᴰ·append-right (words (r .first)) (Memᴰ·append-left [] (words-term ags (r .second) w (left-bare .1) (λ v i. s .names v (Memᴰ·append-right xs i)) j)))
+      (⊎-elim (λ j. Memᴰ·append-left (words (r .second) ++ []) (words-term ags (r .first) w (left-bare .0) (λ v i. s .named .names v (Memᴰ·append-left ys i)) j))
+      (λ j. Memᴰ·append-right (words (r .first)) (Memᴰ·append-left [] (words-term ags (r .second) w (left-bare .1) (λ v i. s .named .names v (Memᴰ·append-right xs i)) j)))
       (List·Memᴰ·append-cases xs m)))
-      (rw (s .names w m))
+      (rw (s .named .names w m))
 
   new-code : (w : Word) → among w (namesOf ags (lefts r)) ≡ false → ruleNumber ags r w ≡ new-from + indexOf w (newNames ags r)
   unfolding ruleNumber leftArgs
@@ -169,11 +169,11 @@ module _ (ags : List Agent) (r : Rule) (s : SoundRule ags r) where
 
   pub first-arity : length xs ≡ arityAt ags ((template ags r) .left)
   unfolding template lefts nodes
-  first-arity = head-arity ags (r .first) _ (s .arities) (s .first-agent) .1
+  first-arity = head-arity ags (r .first) _ (s .arities) (s .named .first-agent) .1
 
   pub second-arity : length ys ≡ arityAt ags ((template ags r) .right)
   unfolding template lefts nodes
-  second-arity = head-arity ags (r .second) _ (λ n m. s .arities n (Memᴰ·append-right (nodesAt 1 (r .first)) m)) (s .second-agent) .1
+  second-arity = head-arity ags (r .second) _ (λ n m. s .arities n (Memᴰ·append-right (nodesAt 1 (r .first)) m)) (s .named .second-agent) .1
 
   module _ (few : Few r) (x : ℕ) where
     code-left : x < arityAt ags ((template ags r) .left) → codeOk ags (template ags r) (name x) ≡ true

@@ -8,11 +8,11 @@ use native.Mathlib.Omega.{arith}
 use lib.ListN.{length}
 use lib.Dec.{eqb, ltb, leb}
 use borrow.Author.Tests.{eqb-true, eqb-false, le-leb, lt-leb, leb-true, leb-false, ltb-true}
-use Rattle.texts.specs.Bytes.{Word, keep, same, among, different, indexOf, In}
+use Rattle.texts.specs.Bytes.{Word, keep, same, among, different, indexOf, In, Distinct}
 use Rattle.texts.specs.RuleText.{wordAt}
 use Rattle.texts.specs.Coded.{new-from}
 use Rattle.texts.specs.TableTest.{numbered}
-use Rattle.texts.specs.Proofs.Tools.{both, among-in, in-among, Distinct}
+use Rattle.texts.specs.Proofs.Tools.{both, among-in, in-among}
 use Rattle.texts.specs.Proofs.Places.{at-in, index-word, different-in, keep-keep, keep-every}
 use Rattle.texts.specs.Proofs.Respelt.{most, word, numberIn, word-back, word-same}
 

@@ -105,15 +105,15 @@ to-lines (l ∷ ls) n j h = top (line-refused 1 (headerLine wordRules l) rest n 
     rest c = after (readLines ruleLine 2 noBook ls) (counted c)
 
     last : (c : Counts) → headerLine wordRules l ≡ fine c → (b : Book) → readLines ruleLine 2 noBook ls ≡ accepted b
-        → ((c .first ≡ length (b .agents)) × (c .second ≡ length (b .rules)) × (accepted b ≡ refused n j))
-        ⊎ ((¬ ((c .first ≡ length (b .agents)) × (c .second ≡ length (b .rules)))) × (n ≡ 11) × (j ≡ 1))
+        → ((c .upper ≡ length (b .agents)) × (c .lower ≡ length (b .rules)) × (accepted b ≡ refused n j))
+        ⊎ ((¬ ((c .upper ≡ length (b .agents)) × (c .lower ≡ length (b .rules)))) × (n ≡ 11) × (j ≡ 1))
         → RuleLinesRefused (l ∷ ls) n j
     last c e b k (inl (p, q, x)) = not-accepted x
     last c e b k (inr (u, x, y)) = badCount l ls refl c e b (lines-accepted ruleLine 2 noBook ls b .0 k) u x y
 
     mid : (c : Counts) → headerLine wordRules l ≡ fine c → After (readLines ruleLine 2 noBook ls) (counted c) n j → RuleLinesRefused (l ∷ ls) n j
     mid c e (before k) = let p = lines-refused ruleLine 2 noBook ls n j .0 k in badLine l ls refl c e (p .0) (p .2) (p .1)
-    mid c e (behind b k m) = last c e b k (counts-exact (c .first) (c .second) (length (b .agents)) (length (b .rules)) n j (accepted b) .0 m)
+    mid c e (behind b k m) = last c e b k (counts-exact (c .upper) (c .lower) (length (b .agents)) (length (b .rules)) n j (accepted b) .0 m)
 
     top : AfterLine 1 (headerLine wordRules l) rest n j → RuleLinesRefused (l ∷ ls) n j
     top (here e q) = badHeader l ls refl (header-exact wordRules l n .0 e) q
@@ -130,7 +130,7 @@ from-lines ls n j (badLine h rest e c k i st y) =
 from-lines ls n j (badCount h rest e c k b r u x y) =
     rw e (line-refused 1 (headerLine wordRules h) _ n j .1 (later c k
     (after-refused (readLines ruleLine 2 noBook rest) (counted c) n j .1 (behind b (lines-accepted ruleLine 2 noBook rest b .1 r)
-    (counts-exact (c .first) (c .second) (length (b .agents)) (length (b .rules)) n j (accepted b) .1 (inr (u, x, y)))))))
+    (counts-exact (c .upper) (c .lower) (length (b .agents)) (length (b .rules)) n j (accepted b) .1 (inr (u, x, y)))))))
 
 -- A rule text is refused with number n and line j exactly so.
 pub rules-refused : (text : List ℕ) (n j : ℕ) → (readRules text ≡ refused n j) ↔ RulesRefused text n j

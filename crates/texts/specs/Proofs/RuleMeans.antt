@@ -272,25 +272,25 @@ unfolding all wordByte letter digit
 word-rules = refl
 
 abbrev countsOf : Book → Counts
-countsOf b = record { first = length (b .agents); second = length (b .rules) }
+countsOf b = record { upper = length (b .agents); lower = length (b .rules) }
 
 abbrev headOf : Book → List ℕ
 headOf b = writeHeader wordRules (length (b .agents)) (length (b .rules))
 
-counts-are : (c : Counts) (a b : Book) → c .first ≡ length (a .agents) → c .second ≡ length (a .rules) → a ≡ b → c ≡ countsOf b
+counts-are : (c : Counts) (a b : Book) → c .upper ≡ length (a .agents) → c .lower ≡ length (a .rules) → a ≡ b → c ≡ countsOf b
 counts-are c a b x y z = rw (← z, ← x, ← y)
 
 counted-accepted : (c : Counts) (a b : Book) → counted c a ≡ accepted b → (c ≡ countsOf b) × (a ≡ b)
 unfolding counted
-counted-accepted c a b h = go (eqb (c .first) (length (a .agents)) && eqb (c .second) (length (a .rules))) refl h
+counted-accepted c a b h = go (eqb (c .upper) (length (a .agents)) && eqb (c .lower) (length (a .rules))) refl h
   where
-    go : (t : Bool) → (eqb (c .first) (length (a .agents)) && eqb (c .second) (length (a .rules))) ≡ t → cond t (accepted a) (refused 11 1) ≡ accepted b
+    go : (t : Bool) → (eqb (c .upper) (length (a .agents)) && eqb (c .lower) (length (a .rules))) ≡ t → cond t (accepted a) (refused 11 1) ≡ accepted b
         → (c ≡ countsOf b) × (a ≡ b)
     go true e k =
-        let p = both (eqb (c .first) (length (a .agents))) _ e in
+        let p = both (eqb (c .upper) (length (a .agents))) _ e in
         let z : a ≡ b = cc in
-        let x = eqb-true (c .first) (length (a .agents)) (p .0) in
-        let y = eqb-true (c .second) (length (a .rules)) (p .1) in
+        let x = eqb-true (c .upper) (length (a .agents)) (p .0) in
+        let y = eqb-true (c .lower) (length (a .rules)) (p .1) in
         (counts-are c a b x y z, z)
     go false e k = absurd (let z : _≡_ {A = ℕ} 0 1 = cc in omega arith)
 

@@ -16,8 +16,9 @@ use Rattle.texts.specs.TableTest.{turnsTo}
 use Rattle.texts.specs.Proofs.Places.{in-keep}
 use Rattle.texts.specs.Proofs.Templates.{Few}
 use Rattle.texts.specs.Proofs.Ranged.{right-name}
-use Rattle.texts.specs.Proofs.Turning.{turned-is, back-is, into-is, equations-are}
-use Rattle.texts.specs.Conditions.{SoundRule}
+use Rattle.texts.specs.Proofs.Turning.{turned-is, equations-are}
+use Rattle.texts.specs.Proofs.Mirror.{Arg, Wired, back-is, into-is}
+use Rattle.texts.specs.Proofs.RuleSound.{SoundRule}
 
 head-in : (t : Term) (ws : List Word) → In (headOf t) (words t ++ ws)
 unfolding headOf words
@@ -35,8 +36,7 @@ side-in e (d ∷ es) m = ⊎-elim here (λ k. let p = side-in e es k in (later (
         × In (headOf (e .right)) (words (d .left) ++ (words (d .right) ++ wordsIn (packed (sides es))))
     here q = rw q (head-in (d .left) _, Memᴰ·append-right (words (d .left)) (head-in (d .right) _))
 
-module _ (ags : List Agent) (r : Rule) (s : SoundRule ags r) (no-cells : cellsOf ags (rights r) ≡ []) (no-new : newNames ags r ≡ [])
-    (few : Few r) (even : length (argsOf (r .first)) ≡ length (argsOf (r .second))) where
+module _ (ags : List Agent) (r : Rule) (s : SoundRule ags r) (no-cells : cellsOf ags (rights r) ≡ []) (no-new : newNames ags r ≡ []) where
   undeclared : (w : Word) → In w (wordsIn (packed (rights r))) → declared ags w ≡ false
   unfolding cellsOf
   undeclared w m = go (declared ags w) refl
@@ -53,7 +53,7 @@ module _ (ags : List Agent) (r : Rule) (s : SoundRule ags r) (no-cells : cellsOf
   unfolding among any
   none-new w = rw no-new
 
-  is-arg : (w : Word) → In w (wordsIn (packed (rights r))) → (among w (argsOf (r .first)) ≡ true) ⊎ (among w (argsOf (r .second)) ≡ true)
+  is-arg : (w : Word) → In w (wordsIn (packed (rights r))) → Arg r w
   is-arg w m = go (among w (argsOf (r .first))) (among w (argsOf (r .second))) refl refl
     where
       go : (t u : Bool) → among w (argsOf (r .first)) ≡ t → among w (argsOf (r .second)) ≡ u → (t ≡ true) ⊎ (u ≡ true)
@@ -65,18 +65,20 @@ module _ (ags : List Agent) (r : Rule) (s : SoundRule ags r) (no-cells : cellsOf
   unfolding rights
   sides-of e m = side-in e (r .right) m
 
-  wired : (e : Equation) → In e (r .right)
-      → ((among (headOf (e .left)) (argsOf (r .first)) ≡ true) ⊎ (among (headOf (e .left)) (argsOf (r .second)) ≡ true))
-      × ((among (headOf (e .right)) (argsOf (r .first)) ≡ true) ⊎ (among (headOf (e .right)) (argsOf (r .second)) ≡ true))
+  pub wired : (e : Equation) → In e (r .right) → Wired r e
   wired e m = let p = sides-of e m in (is-arg _ (p .0), is-arg _ (p .1))
 
-  equations : (template ags r) .body ≡ map (λ e. name (ruleNumber ags r (headOf (e .left))) := name (ruleNumber ags r (headOf (e .right)))) (r .right)
-  unfolding template rights
-  equations = equations-are ags r s few even (r .right) 0 (λ e m. let p = sides-of e m in (undeclared _ (p .0), undeclared _ (p .1)))
+  pub names-only : (e : Equation) → In e (r .right) → (declared ags (headOf (e .left)) ≡ false) × (declared ags (headOf (e .right)) ≡ false)
+  names-only e m = let p = sides-of e m in (undeclared _ (p .0), undeclared _ (p .1))
 
-  -- the three tests are one
-  pub codes-back : all (λ e. any (turnsTo e) ((template ags r) .body)) ((template ags r) .body) ≡ within (map (mirrored r) (map wireOf (r .right))) (map wireOf (r .right))
-  codes-back = rw equations (turned-is ags r s few even (r .right) wired ∙ sym (back-is ags r s few even (r .right) wired))
+  module _ (few : Few r) (even : length (argsOf (r .first)) ≡ length (argsOf (r .second))) where
+    equations : (template ags r) .body ≡ map (λ e. name (ruleNumber ags r (headOf (e .left))) := name (ruleNumber ags r (headOf (e .right)))) (r .right)
+    unfolding template rights
+    equations = equations-are ags r s few even (r .right) 0 names-only
 
-  pub into-back : within (map wireOf (r .right)) (map (mirrored r) (map wireOf (r .right))) ≡ within (map (mirrored r) (map wireOf (r .right))) (map wireOf (r .right))
-  into-back = into-is ags r s few even (r .right) wired ∙ sym (back-is ags r s few even (r .right) wired)
+    -- the three tests are one
+    pub codes-back : all (λ e. any (turnsTo e) ((template ags r) .body)) ((template ags r) .body) ≡ within (map (mirrored r) (map wireOf (r .right))) (map wireOf (r .right))
+    codes-back = rw equations (turned-is ags r s few even (r .right) wired ∙ sym (back-is r (s .named .distinct) even (r .right) wired))
+
+    pub into-back : within (map wireOf (r .right)) (map (mirrored r) (map wireOf (r .right))) ≡ within (map (mirrored r) (map wireOf (r .right))) (map wireOf (r .right))
+    into-back = into-is r (s .named .distinct) even (r .right) wired ∙ sym (back-is r (s .named .distinct) even (r .right) wired)

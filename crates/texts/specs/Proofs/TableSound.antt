@@ -25,7 +25,7 @@ use Rattle.texts.specs.Proofs.NetSound.{SoundNet, net-sound}
 use Rattle.texts.specs.Proofs.Loads.{allSides, ok as args-ok, load-cells, name-twice, cell-once as net-cell-once}
 use Rattle.texts.specs.Proofs.Templates.{Few, template-cells, right-args, left-once, right-once, new-twice, cell-once}
 use Rattle.texts.specs.Good.{Good, GoodBook, GoodNet}
-use Rattle.texts.specs.Conditions.{SoundRule}
+use Rattle.texts.specs.Proofs.RuleSound.{SoundRule}
 
 pub codes-length : (ags : List Agent) (number : Word → ℕ) (ts : Terms) (m : ℕ) → length (codes ags number m ts) ≡ count ts
 unfolding codes count
@@ -106,11 +106,11 @@ module _ (b : Book) (r : Rule) (g : Good b (isRule r)) (s : SoundRule (b .agents
 
   first-head : (symbolOf ags (headOf (r .first)) < length ags) × (length (argsOf (r .first)) ≡ arityAt ags (symbolOf ags (headOf (r .first))))
   unfolding lefts nodes
-  first-head = head-arity ags (r .first) _ (s .arities) (s .first-agent)
+  first-head = head-arity ags (r .first) _ (s .arities) (s .named .first-agent)
 
   second-head : (symbolOf ags (headOf (r .second)) < length ags) × (length (argsOf (r .second)) ≡ arityAt ags (symbolOf ags (headOf (r .second))))
   unfolding lefts nodes
-  second-head = head-arity ags (r .second) _ (λ n m. s .arities n (Memᴰ·append-right (nodesAt 1 (r .first)) m)) (s .second-agent)
+  second-head = head-arity ags (r .second) _ (λ n m. s .arities n (Memᴰ·append-right (nodesAt 1 (r .first)) m)) (s .named .second-agent)
 
   pub few : ((n : ℕ) → arityAt ags n ≤ arity-max) → Few r
   few h = record { first = rw (first-head .1) (h _); second = rw (second-head .1) (h _) }

@@ -17,12 +17,12 @@ use Rattle.model.specs.Table as Model
 use Rattle.model.specs.SoundTable.{SoundEntry}
 use Rattle.model.specs.Sound as Machine
 use Rattle.model.specs.SoundTable as SoundTable
-use Rattle.texts.specs.Bytes.{Word, any, all, same, In}
+use Rattle.texts.specs.Bytes.{Word, any, all, same, In, Distinct}
 use Rattle.texts.specs.Terms.{symbol}
 use Rattle.texts.specs.Books.{Agent, declared}
 use Rattle.texts.specs.Coded.{Table, machine, arityAt}
 use Rattle.texts.specs.TableTest.{agentOk, testAgents, pairTest, testTemplate, testTemplates, testTable}
-use Rattle.texts.specs.Proofs.Tools.{never, all-true, both, pair, noneOf, neither, any-false, false-any, same-eq, Distinct}
+use Rattle.texts.specs.Proofs.Tools.{never, all-true, both, pair, noneOf, neither, any-false, false-any, same-eq}
 use Rattle.texts.specs.Proofs.Agents.{symbols, agents-apart, ok-parts, few-args}
 use Rattle.texts.specs.Proofs.Entries.{rule, entry-sound, entry-tested}
 use Rattle.texts.specs.Conditions.{SpeltAgents}

@@ -10,17 +10,17 @@ use lib.Dec.{eqb}
 use borrow.Author.Tests.{eqb-true, eqb-false, eq-eqb, ne-eqb, not-true}
 use Rattle.parts.specs.Limits.{arity-max}
 use Rattle.parts.specs.Sides.{Side, name, cell}
-use Rattle.texts.specs.Bytes.{Word, any, keep, same, among, times, indexOf, In}
+use Rattle.texts.specs.Bytes.{Word, any, keep, same, among, times, indexOf, In, Distinct}
 use Rattle.texts.specs.Terms.{Term, Terms, term, nil, cons, nodes, wordsOf}
 use Rattle.texts.specs.Books.{Agent, Equation, Rule, declared, takes, sides, lefts, rights, headOf, heads, argsOf, leftArgs, cellsOf, namesOf, newNames}
 use Rattle.texts.specs.RuleText.{even, wrongArgs, wordAt}
 use Rattle.texts.specs.Coded.{twos, packed, codes, cellsFrom, second-from, new-from, ruleNumber, template, unpaired}
 use Rattle.texts.specs.TableTest.{argsAll, allCodes, sameSide, tally}
-use Rattle.texts.specs.Proofs.Tools.{never, false-any, among-in, Distinct}
+use Rattle.texts.specs.Proofs.Tools.{never, false-any, among-in}
 use Rattle.texts.specs.Proofs.Places.{at-in, not-at, not-in, index-all, index-less, distinct-left, distinct-right, distinct-apart, keep-in, in-keep, different-in, different-distinct}
 use Rattle.texts.specs.Proofs.Linear.{words, wordsIn, words-all, one, tally-cons, tally-append, cellTally, code-count, cell-count}
 use Rattle.texts.specs.Proofs.NetMeans.{nodes-append}
-use Rattle.texts.specs.Conditions.{SoundRule}
+use Rattle.texts.specs.Proofs.RuleSound.{SoundRule}
 
 pub unpaired-twos : (cs : List Side) → even cs ≡ true → unpaired (twos cs) ≡ cs
 unfolding unpaired twos even
@@ -158,7 +158,7 @@ module _ (ags : List Agent) (r : Rule) (s : SoundRule ags r) (few : Few r) where
 
   apart : Distinct (xs ++ ys)
   unfolding leftArgs
-  apart = s .distinct
+  apart = s .named .distinct
 
   pub left-code : (i : ℕ) (w : Word) → i < length xs → eqb i (ruleNumber ags r w) ≡ same (wordAt i xs) w
   unfolding ruleNumber
@@ -185,7 +185,7 @@ module _ (ags : List Agent) (r : Rule) (s : SoundRule ags r) (few : Few r) where
   unfolding newNames
   new-apart w m =
       let p = keep-in (λ v. not (among v (namesOf ags (lefts r)))) w (namesOf ags (rights r)) (different-in w _ m) in
-      (p .0, λ k. not-in w (namesOf ags (lefts r)) (not-true _ (p .1)) (left-words ags r w k (s .names w k)))
+      (p .0, λ k. not-in w (namesOf ags (lefts r)) (not-true _ (p .1)) (left-words ags r w k (s .named .names w k)))
 
   pub new-code : (k : ℕ) (w : Word) → k < length ns → eqb (new-from + k) (ruleNumber ags r w) ≡ same (wordAt k ns) w
   unfolding ruleNumber leftArgs
@@ -217,16 +217,16 @@ module _ (ags : List Agent) (r : Rule) (s : SoundRule ags r) (few : Few r) where
   -- Each left argument stands once, each new name twice, each cell once.
   pub left-once : (i : ℕ) → i < length xs → tally (sameSide (name i)) (allCodes (template ags r)) ≡ 1
   unfolding leftArgs
-  left-once i h = counted i (wordAt i xs) (λ w. left-code i w h) ∙ s .once (wordAt i xs) (Memᴰ·append-left ys (at-in i xs h))
+  left-once i h = counted i (wordAt i xs) (λ w. left-code i w h) ∙ s .named .once (wordAt i xs) (Memᴰ·append-left ys (at-in i xs h))
 
   pub right-once : (j : ℕ) → j < length ys → tally (sameSide (name (second-from + j))) (allCodes (template ags r)) ≡ 1
   unfolding leftArgs
-  right-once j h = counted (second-from + j) (wordAt j ys) (λ w. right-code j w h) ∙ s .once (wordAt j ys) (Memᴰ·append-right xs (at-in j ys h))
+  right-once j h = counted (second-from + j) (wordAt j ys) (λ w. right-code j w h) ∙ s .named .once (wordAt j ys) (Memᴰ·append-right xs (at-in j ys h))
 
   pub new-twice : (k : ℕ) → k < length ns → tally (sameSide (name (new-from + k))) (allCodes (template ags r)) ≡ 2
   new-twice k h =
       let p = new-apart (wordAt k ns) (at-in k ns h) in
-      counted (new-from + k) (wordAt k ns) (λ w. new-code k w h) ∙ s .twice (wordAt k ns) (p .0) (p .1)
+      counted (new-from + k) (wordAt k ns) (λ w. new-code k w h) ∙ s .named .twice (wordAt k ns) (p .0) (p .1)
 
   pub cell-once : (k : ℕ) → k < length ((template ags r) .cells) → tally (sameSide (cell k)) (allCodes (template ags r)) ≡ 1
   cell-once k h =

@@ -6,13 +6,13 @@ use mathlib.Core.Logic.{⊎-elim}
 use mathlib.Core.List.{List, [], _∷_, _++_, map, List·Memᴰ·head, List·Memᴰ·tail, List·Memᴰ·cases-cons, List·Memᴰ·not-nil, List·Memᴰ·append-cases}
 use native.Mathlib.Omega.{arith}
 use lib.ListN.{length}
-use Rattle.texts.specs.Bytes.{Word, any, all, same, among, In}
+use Rattle.texts.specs.Bytes.{Word, any, all, same, among, In, Distinct}
 use Rattle.texts.specs.Terms.{Term, Terms, term, nil, cons, count, identifier, Node, nodesAt, nodesIn, nodes, worded, wordeds}
 use Rattle.texts.specs.Books.{sides, pairs, headOf, heads}
 use Rattle.parts.specs.Sides.{Side, name, cell, Pair, _:=_}
 use Rattle.model.specs.Table.{Cell}
 use Rattle.texts.specs.Coded.{packed, twos, unpaired}
-use Rattle.texts.specs.Proofs.Tools.{never, both, pair, noneOf, Distinct, in-among, all-left, all-right, all-append, any-append}
+use Rattle.texts.specs.Proofs.Tools.{never, both, pair, noneOf, in-among, all-left, all-right, all-append, any-append}
 use Rattle.texts.specs.Proofs.Linear.{words, wordsIn}
 use Rattle.texts.specs.TableTest.{argsAll, ahead, onward, rest, met}
 use Rattle.texts.specs.Proofs.Respelt.{word}

@@ -136,6 +136,16 @@ module _ {A : Type 0} where
       go true e k ih = (y, List·Memᴰ·head refl, e)
       go false e k ih = let p = ih k in (p .0, List·Memᴰ·tail (p .1), p .2)
 
+  pub any-in : (f : A → Bool) (x : A) (xs : List A) → In x xs → f x ≡ true → any f xs ≡ true
+  unfolding any
+  any-in f x [] m h = absurd (List·Memᴰ·not-nil m)
+  any-in f x (y ∷ ys) m h = go (f y) refl (List·Memᴰ·cases-cons m) (λ k. any-in f x ys k h)
+    where
+      go : (t : Bool) → f y ≡ t → (x ≡ y) ⊎ In x ys → (In x ys → any f ys ≡ true) → (t || any f ys) ≡ true
+      go true e k ih = refl
+      go false e (inl z) ih = never (sym e ∙ (ap f (sym z) ∙ h))
+      go false e (inr k) ih = ih k
+
   pub in-split : (x : A) (xs : List A) → In x xs → (us : List A) × (vs : List A) × (xs ≡ us ++ (x ∷ vs))
   in-split x [] m = absurd (List·Memᴰ·not-nil m)
   in-split x (y ∷ ys) m = go (List·Memᴰ·cases-cons m) (in-split x ys)
@@ -157,11 +167,6 @@ pub in-among : (w : Word) (ws : List Word) → In w ws → among w ws ≡ true
 unfolding among any
 in-among w ws (List·Memᴰ·head {x = v} e) = rw (← e, same-refl w)
 in-among w ws (List·Memᴰ·tail {x = v} {xs = vs} m) = rw (in-among w vs m) (or-true (same w v))
-
--- No word twice.
-unfoldable pub Distinct : List Word → Type 0
-Distinct [] = Unit {0}
-Distinct (w ∷ ws) = (¬ In w ws) × Distinct ws
 
 -- What is found.
 module _ {A B : Type 0} where

@@ -22,8 +22,8 @@ use Rattle.model.specs.State.{from}
 use Rattle.texts.specs.Bytes.{any, all, In}
 use Rattle.texts.specs.Coded.{second-from}
 use Rattle.texts.specs.TableTest.{sameSide, turned, turnedSide, turnsTo}
-use Rattle.texts.specs.Proofs.Tools.{never, both, all-true, true-all, any-true, any-append, in-split, not-empty}
-use Rattle.texts.specs.Proofs.Turning.{all-map, any-map, any-ext, all-ext}
+use Rattle.texts.specs.Proofs.Tools.{both, all-true, true-all, any-true, any-in, any-append, in-split, not-empty}
+use Rattle.texts.specs.Proofs.Mirror.{all-map, any-map, any-ext, all-ext}
 
 -- A wire: two names; as an equation of sides, as one of the calculus, and with its names changed.
 abbrev pub Wire : Type 0
@@ -208,16 +208,6 @@ ins-map : (w : Wire) (ws : List Wire) → In w ws → (k : List Eqn) × Ins (eqn
 ins-map w [] m = absurd (List·Memᴰ·not-nil m)
 ins-map w (v ∷ ws) m =
     ⊎-elim (λ e. rw e (map eqnOf ws, here)) (λ j. let p = ins-map w ws j in (eqnOf v ∷ p .0, there (p .1))) (List·Memᴰ·cases-cons m)
-
-any-in : {A : Type 0} (f : A → Bool) (x : A) (xs : List A) → In x xs → f x ≡ true → any f xs ≡ true
-unfolding any
-any-in f x [] m h = absurd (List·Memᴰ·not-nil m)
-any-in f x (y ∷ ys) m h = go (f y) refl (List·Memᴰ·cases-cons m) (λ k. any-in f x ys k h)
-  where
-    go : (t : Bool) → f y ≡ t → (x ≡ y) ⊎ In x ys → (In x ys → any f ys ≡ true) → (t || any f ys) ≡ true
-    go true e k ih = refl
-    go false e (inl z) ih = never (sym e ∙ (ap f (sym z) ∙ h))
-    go false e (inr k) ih = ih k
 
 within-perm : (vs ws : List Wire) → map eqnOf vs ∼ map eqnOf ws → all (λ v. any (matches v) ws) vs ≡ true
 within-perm vs ws p =
