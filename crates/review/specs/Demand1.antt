@@ -79,8 +79,8 @@ module _ {w v o o′ : List ℕ} where
   pub answer-14 : AnswerCall w v o End.Waits o′ ↔ (BothSound w v × (0 < (view v) .waiting .used) × (o′ ≡ o))
   answer-14 = answer-waits
 
-  -- 15: "answer longer than the output buffer": than the lines of the answer of the net that the state stands for, which does
-  -- not depend on how its soundness is shown (`one-net`, Demand2).
+  -- 15: "answer longer than the output buffer": the lines are those of the net that the state stands for, however its
+  -- soundness is shown (`one-meaning`, Demand2).
   pub answer-15 : AnswerCall w v o End.Long o′
       ↔ ((h : BothSound w v) × ((view v) .waiting .used ≡ 0) × (length o < length (net-lines h)) × (o′ ≡ o))
   answer-15 = answer-long

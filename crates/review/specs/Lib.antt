@@ -5,7 +5,6 @@ pub mod Demand1Nets
 pub mod Demand1Rules
 pub mod Demand2
 pub mod Demand3
-pub mod Exact
 pub mod Examples
 pub mod Faults
 pub mod Loads

@@ -2,7 +2,7 @@
 use Prim.Native.Nat.{ℕ, zero, suc, _+_, _-_, _≤_, _<_}
 use mathlib.Core.Path.{_≡_, refl, sym, ap, ap₂, subst, _∙_}
 use mathlib.Core.List.{List, [], _∷_}
-use mathlib.Core.Logic.{inr}
+use mathlib.Core.Logic.{_↔_, inr}
 use native.Mathlib.Decide.{decLt}
 use native.Mathlib.Omega.{arith}
 use Rattle.parts.specs.Limits.{budget-max}
@@ -25,6 +25,7 @@ use Rattle.review.specs.Promises.{RunCall}
 use Rattle.review.specs.Picks.{Moves, none, more, made, first-picks, Because, RunSteps}
 use Rattle.review.specs.Proofs.Steps.{step-went, run-asked, run-exactly, run-kept, run-went}
 use Rattle.review.specs.Proofs.Walking.{moves-sound}
+use Rattle.review.specs.Proofs.Made.{run-steps}
 
 module _ (T : Table) (s : St) where
   -- Of a step one thing comes.
@@ -161,6 +162,14 @@ run-within {w} {v} {budget} {r} {t = t} {n = n} c e = go (decLt budget-max budge
         let q = run-exactly c Run.TooMuch .1 (run-went c t n e .0, o) in
         let k : number 17 ≡ stopped t n = ap run-told (sym q) ∙ e in
         absurd (let z : _≡_ {A = ℕ} 0 1 = cc in omega arith)
+
+pub run-exactly-steps : {w v : List ℕ} {budget : ℕ} {r : RunAnswer} {v′ : List ℕ} (t : Stop) (n : ℕ)
+    → run-told r ≡ stopped t n
+    → RunCall w v budget r v′ ↔ (BothSound w v × (budget ≤ budget-max) × RunSteps w v budget t n v′)
+run-exactly-steps t n e = (
+  λ c. (run-went c t n e .0, run-within c e, run-steps c t n e),
+  λ (h, o, s). steps-run e h o s,
+)
 
 -- What a run leaves is sound, but where it is answered that what was lent is not.
 pub run-leaves-sound : {w v : List ℕ} {budget : ℕ} {r : RunAnswer} {v′ : List ℕ} → RunCall w v budget r v′
