@@ -1,5 +1,16 @@
 -- Demand 1: "Every rule text, net text, lent state and pick gets an answer, damaged or not": for whatever is lent, some
--- answer and some bytes meet the promise, and no second ones do. (That a call ends is proved with its code.)
+-- answer and some bytes meet the promise, and no second ones do.
+--
+-- That a call ends is proved with its code: each loop, and each function that comes to call itself, has a number that falls.
+--
+--   read_rules, read_net      of lines: the bytes left of the text; of fields, words and records: those left. The term reader
+--                             and the argument-list reader: the levels left of 64, and at one level the arguments left
+--   table_sound, both_sound   the places left of an array; in the walks over cells, the cells not yet met
+--   step                      after both_sound: what is left of the list that waits and of the rule's equations, cells and
+--                             new names, and the places left where a free one is looked for
+--   run                       after both_sound: the steps left of the number that suffices for its budget
+--   read_answer               after both_sound: the cells not yet met, the stuck pairs left, the letters left of a symbol
+--   evaluate                  after these calls: the bytes left of a line, and a number without its last digit
 use Rattle.parts.specs.Limits.{table-size}
 use Rattle.model.specs.State.{zeros}
 use Rattle.review.specs.Words.{ℕ, _≡_, Bool, List, _↔_, state-size, view}

@@ -1,7 +1,7 @@
 -- What each public call promises, word for word: one relation between what it was lent, its answer and what it leaves.
 use Rattle.answers.specs.Answer.{Answer}
 use Rattle.answer.specs.declared.EndAnswer.{EndAnswer}
-use Rattle.review.specs.Words.{ℕ, _≤_, _≡_, Bool, true, List, _++_, _↔_, length, drop, sets, state-size, view, Words, empty, meaning, answer, answer-text, agentsIn, bytesOf, no-table, Given, BothSound, sound-state, left, rulesRead, RulesAnswer, told, netCall, NetAnswer, end-told, given, called, evaluated, out, step-told, step-called, run-told, run-called, StepAnswer, RunAnswer}
+use Rattle.review.specs.Words.{ℕ, _≤_, _≡_, Bool, true, List, _++_, _↔_, length, drop, sets, state-size, view, Words, empty, meaning, answer, answer-text, agentsIn, bytesOf, no-table, Given, BothSound, sound-state, answer-and-table, rulesRead, RulesAnswer, told, netCall, NetAnswer, end-told, given, called, evaluated, out, step-told, step-called, run-told, run-called, StepAnswer, RunAnswer}
 
 -- A lent state: an array of that many words of 16 bits. Every array that a caller can lend is one.
 pub record StateArray (v : List ℕ) : Type 0 where
@@ -10,7 +10,7 @@ pub record StateArray (v : List ℕ) : Type 0 where
 
 -- read_rules, lent a text and a table, answers r and leaves the table u.
 pub record RulesCall (text table : List ℕ) (r : RulesAnswer) (u : List ℕ) : Type 0 where
-  pub promised : left r u ≡ rulesRead text table
+  pub promised : answer-and-table r u ≡ rulesRead text table
 
 -- read_net, lent a text, a table w and a state v, answers r and leaves the state v′.
 pub record NetCall (text w v : List ℕ) (r : NetAnswer) (v′ : List ℕ) : Type 0 where
@@ -48,18 +48,19 @@ pub record EmptyState (r : List ℕ) : Type 0 where
 pub record EmptyTable (r : List ℕ) : Type 0 where
   pub promised : r ≡ bytesOf no-table
 
--- One answer and one thing left, of those that can be lent, meet the promise of a call.
+-- One answer, and one thing that it leaves, of those that can be lent, meet the promise of a call.
 pub record One {A : Type 0} (Lent : List ℕ → Type 0) (Call : A → List ℕ → Type 0) : Type 0 where
   pub answer : A
-  pub left : List ℕ
-  pub meets : Call answer left
+  pub leaves : List ℕ
+  pub meets : Call answer leaves
   pub once : (r q : A) (u v : List ℕ) → Lent u → Lent v → Call r u → Call q v → (r ≡ q) × (u ≡ v)
 
 -- Whatever bytes.
 abbrev pub Any : List ℕ → Type 0
 Any u = Unit {0}
 
--- What the reader of the end is to print of a sound state: the answer of the net that it stands for, and its lines.
+-- What the reader of the end is to print of a sound state: the answer of the net that it stands for, and its lines. (By
+-- `one-meaning` in Demand2 they do not depend on how the soundness is shown.)
 abbrev pub net-answer : {w v : List ℕ} → BothSound w v → Answer
 net-answer h = answer (meaning (sound-state h))
 

@@ -38,7 +38,7 @@ pub use Rattle.answers.specs.Collected.{Collected, Substituted}
 pub use Rattle.answers.specs.Knots.{Knotted}
 pub use Rattle.answers.specs.Text.{answer-text}
 pub use Rattle.rules.specs.declared.RulesAnswer.{RulesAnswer}
-pub use Rattle.rules.specs.Answer.{left, rulesRead}
+pub use Rattle.rules.specs.Answer.{left as answer-and-table, rulesRead}
 pub use Rattle.nets.specs.Answer.{told, netCall}
 pub use Rattle.nets.specs.declared.NetAnswer.{NetAnswer}
 pub use Rattle.machine.specs.declared.calls.StepAnswer.{StepAnswer}

@@ -112,7 +112,7 @@ same-state {v} {w} a b e = whole v w (a .long) (b .long) (a .words) (b .words) e
 
 one : {A : Type 0} {Lent : List ℕ → Type 0} {Call : A → List ℕ → Type 0} → (r : A) × (u : List ℕ) × Call r u
     → ((r q : A) (u v : List ℕ) → Lent u → Lent v → Call r u → Call q v → (r ≡ q) × (u ≡ v)) → One Lent Call
-one s o = record { answer = s .0; left = s .1; meets = s .2; once = o }
+one s o = record { answer = s .0; leaves = s .1; meets = s .2; once = o }
 
 pub rules : (text table : List ℕ) → One Any (RulesCall text table)
 rules text table =
