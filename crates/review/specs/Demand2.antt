@@ -17,7 +17,7 @@ use Rattle.review.specs.Promises.{RulesCall, NetCall, StepCall, RunCall,
 use Rattle.review.specs.Picks.{RunSteps}
 use Rattle.review.specs.Rulebook.{Written, ReadWritten}
 use Rattle.review.specs.Loads.{LoadedSo}
-use Rattle.review.specs.Proofs.{Spelt.book-spelt, Spelt.spelt-book, Spelt.bytes-under, Spelt.bytes-agents, Spelt.bytes-code, Spelt.net-spelt-so, Spelt.spelt-net, Spelt.load-exactly, Spelt.load-means-net, Written.to-written, Written.from-written, Written.only-table}
+use Rattle.review.specs.Proofs.{Spelt.book-spelt, Spelt.spelt-book, Spelt.bytes-under, Spelt.bytes-agents, Spelt.bytes-code, Spelt.net-spelt-so, Spelt.spelt-net, Spelt.load-exactly, Spelt.load-means-net, Written.table-exactly}
 use Rattle.review.specs.Proofs.{Calls.step-made as made-exactly, Steps.step-sound-after, Reading.step-reads, OneRun.run-exactly-steps, OneRun.run-leaves-sound, Reads.answer-printed, Reads.printed-answer, Collecting.collects-printed, Collecting.collects-go-on, Collecting.collects-one}
 pub use Rattle.review.specs.Proofs.{Made.run-steps as run-is-steps, Reads.answer-printed as net-printed}
 
@@ -33,16 +33,14 @@ pub book-once : (a b : Book) → GoodBook a → GoodBook b → printBook a ≡ p
 book-once = Texts.book-unique
 
 -- THE TABLE
--- The rules of the table of a book are the written ones and no other: R is rule number i of the table exactly if the rule
--- that is written in place i means R.
-pub book-written : (b : Book) → GoodBook b → (i : ℕ) (R : Calculus.Rule) → book (machine (tableOf b)) i R ↔ Written b i R
-book-written b g i R = (to-written b g i R, from-written b g i R)
-
--- And that says all: no other table has these arities, as many rules, and the written rules.
-pub table-only : (b : Book) → GoodBook b → (T : Table) → T .arities ≡ map (λ a. a .arity) (b .agents)
-    → length (T .rules) ≡ length (b .rules) → ((i : ℕ) (R : Calculus.Rule) → Written b i R → book T i R)
-    → T ≡ machine (tableOf b)
-table-only = only-table
+-- The table of a book is the one with the arities of its agents, as many rules, and no rules but the written ones: R is rule
+-- number i of the table exactly if the rule that is written in place i means R.
+pub table-exact : (b : Book) → GoodBook b → (T : Table)
+    → (T ≡ machine (tableOf b))
+    ↔ ((T .arities ≡ map (λ a. a .arity) (b .agents))
+    × (length (T .rules) ≡ length (b .rules))
+    × ((i : ℕ) (R : Calculus.Rule) → book T i R ↔ Written b i R))
+table-exact = table-exactly
 
 -- The bytes of the table of a book stand for it, and for the agents of the book;
 pub table-under : (b : Book) → GoodBook b → under (tableBytes b) ≡ machine (tableOf b)
@@ -73,17 +71,17 @@ pub net-once-spelt : (b : Book) (m n : Net) → GoodNet (b .agents) m → GoodNe
     → m ≡ n
 net-once-spelt b = Texts.net-unique (b .agents)
 
-module _ (b : Book) (good : GoodBook b) (n : Net) (right : GoodNet (b .agents) n) where
+module _ (b : Book) (good-book : GoodBook b) (n : Net) (good-net : GoodNet (b .agents) n) where
   -- "A loaded net is numbered so from 0, `face` first; its equations wait in text order and the rest is empty": a state is the
   -- net loaded exactly if it is sound and is so.
   pub load-exact : (s : St)
       → (s ≡ loaded (load (b .agents) n))
       ↔ (Sound (machine (tableOf b)) s × LoadedSo (b .agents) (machine (tableOf b)) n s)
-  load-exact = load-exactly b good n right
+  load-exact = load-exactly b good-book n good-net
 
   -- It stands for the net that is written, up to names.
   pub load-means : (h : Sound (machine (tableOf b)) (loaded (load (b .agents) n))) → meaning h ≈ meantNet (b .agents) n
-  load-means = load-means-net b good n right
+  load-means = load-means-net b good-book n good-net
 
 -- The net that a state stands for does not depend on how its soundness is shown.
 pub one-meaning : {w v : List ℕ} (h k : BothSound w v) → meaning (sound-state h) ≡ meaning (sound-state k)
@@ -91,7 +89,8 @@ one-meaning h k = Model.one-meaning (sound-state h) (sound-state k)
 
 -- A STEP
 -- "Each step is the one document 01 lays down": a step is made exactly if what is lent is sound and the pick is below the
--- number waiting, and some row of the step table has the picked equation in its left column and what is left in its right one.
+-- number waiting, and some row of the step table has the picked equation in its left column and the state after it in its
+-- right one.
 pub step-made : {w v v′ : List ℕ} {p : ℕ}
     → StepCall w v p Step.Moved v′
     ↔ (BothSound w v
@@ -111,9 +110,9 @@ pub step-read : (b : Book) → GoodBook b → {w v : List ℕ} {p : ℕ} {v′ :
 step-read = step-reads
 
 -- A RUN
--- A run that is not refused is steps by pick 0 from the lent state to the one that is left, with the interactions that it
--- tells, and it stops for the reason that it tells: nothing waits; or the head is an interaction and the budget is spent; or
--- no room. And where there are such steps, the run tells that.
+-- A run tells that it stopped for t with n interactions exactly if what is lent is sound, the budget is not too large, and
+-- steps by pick 0 lead to the state after it with n interactions, where it has this reason to stop: nothing waits; or the
+-- head is an interaction and the budget is spent; or no room.
 pub run-is : {w v : List ℕ} {budget : ℕ} {r : RunAnswer} {v′ : List ℕ} (t : Stop) (n : ℕ) → run-told r ≡ stopped t n
     → RunCall w v budget r v′ ↔ (BothSound w v × (budget ≤ budget-max) × RunSteps w v budget t n v′)
 run-is = run-exactly-steps

@@ -1,5 +1,5 @@
--- What `evaluate` prints of two texts: what the other calls answer, made one after another, whatever table, state and output
--- are lent to them. `netrun` adds nothing but the files.
+-- What `evaluate` prints of two texts: the other calls, made one after another, whatever table and state are lent to them,
+-- "with budget 100,000 and a 65,536 byte output". `netrun` adds nothing but the files.
 use Rattle.rules.specs.declared.RulesAnswer.the-variants as Rules
 use Rattle.nets.specs.declared.NetAnswer.the-variants as Nets
 use Rattle.machine.specs.declared.calls.RunAnswer.the-variants as Run
@@ -42,16 +42,16 @@ module _ {rules t w : List ℕ} (net : List ℕ) (read : RulesCall rules t Rules
     noroom-printed c = stops net read loaded c noroom _ refl
 
     module _ {n : ℕ} {v′ : List ℕ} (ended : RunCall w v budget (Run.Ended n) v′) {o o′ : List ℕ} where
-      -- Where it ended, the answer can be read, if it is not longer than the output,
+      -- The answer is not refused, but where it is longer than the output.
       pub answer-on : {g : EndAnswer} → AnswerCall w v′ o g o′ → (¬ (g ≡ End.Unsound)) × (¬ (g ≡ End.Waits))
       answer-on = end-read net read loaded ended
 
-      -- of "65,536 byte". "First line: `ran`, word, interactions, loops, stuck pairs, knot cells. Then `face` with its terms, then
-      -- one `eq` for each stuck pair."
+      -- "First line: `ran`, word, interactions, loops, stuck pairs, knot cells. Then `face` with its terms, then one `eq` for each
+      -- stuck pair."
       pub end-printed : {l loops stuck knot : ℕ} → length o ≡ output-max → AnswerCall w v′ o (End.Read l loops stuck knot) o′
           → evaluated rules net ≡ First.ended n loops stuck knot ++ take l o′
       end-printed = answers net read loaded ended
 
-      -- "A refusal prints [..] `answer`, number, line (0 for answer)": number 15, if the answer is longer than the output.
+      -- 15: "answer longer than the output buffer".
       pub long-printed : length o ≡ output-max → AnswerCall w v′ o End.Long o′ → evaluated rules net ≡ refusal wordAnswer 15 0
       long-printed = too-long net read loaded ended

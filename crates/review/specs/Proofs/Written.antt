@@ -2,7 +2,7 @@
 use Prim.Native.Nat.{ℕ, zero, suc, _<_}
 use mathlib.Core.Path.{_≡_, refl, sym, ap, ap₂, subst, _∙_}
 use mathlib.Core.List.{List, [], _∷_, _++_, map, List·Memᴰ·head, List·Memᴰ·tail}
-use mathlib.Core.Logic.{inl}
+use mathlib.Core.Logic.{_↔_, inl}
 use native.Mathlib.Omega.{arith}
 use lib.ListN.{length, getD, length-append, length-map}
 use lib.Seq.{ext-getD}
@@ -153,3 +153,16 @@ only-table b g T e l h = ap₂ (λ x y. record { arities = x; rules = y }) e sam
 
     same : T .rules ≡ map (template (b .agents)) (b .rules)
     same = ext-getD no-entry (T .rules) (map (template (b .agents)) (b .rules)) (l ∙ sym (length-map (b .rules) (template (b .agents)))) at
+
+-- So a table is that of the book exactly if it has these arities, as many rules, and no rules but the written ones.
+pub table-exactly : (b : Book) → GoodBook b → (T : Table)
+    → (T ≡ machine (tableOf b))
+    ↔ ((T .arities ≡ map (λ a. a .arity) (b .agents))
+    × (length (T .rules) ≡ length (b .rules))
+    × ((i : ℕ) (R : Calculus.Rule) → book T i R ↔ Written b i R))
+unfolding machine tableOf
+table-exactly b g T = (
+  λ e.
+      rw e (refl, length-map (b .rules) (template (b .agents)), λ i R. (to-written b g i R, from-written b g i R)),
+  λ (e, l, h). only-table b g T e l (λ i R. h i R .1),
+)
