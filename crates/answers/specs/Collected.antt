@@ -35,6 +35,10 @@ pub record Collected (C : Conf) : Type 0 where
 -- From there Substitutions into stuck pairs take the net to `last`: the same interface, stuck pairs, and a rest. These
 -- stuck pairs, numbered on from the interface, are those printed of C. No name in them is tied or joined any more. The
 -- agents that names are tied to in the rest are the knot.
+--
+-- It says that some Substitutions do this, since not any do: "x = S(y), y = D(x) has two different Substitution results".
+-- Those meant go into stuck pairs only, each by a tie ("a tied name reads as its term") or by a join ("two joined names are
+-- one"); what lies on a circle is never put in.
 pub record Substituted (C : Conf) (c : Collected C) : Type 0 where
   pub last : Conf
   pub way : Substitutes (c .end) last

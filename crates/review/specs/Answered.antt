@@ -1,6 +1,19 @@
 -- Demand 1: "Every rule text, net text, lent state and pick gets an answer, damaged or not": for whatever is lent, some
--- answer and some bytes meet the promise, and no second ones do. (That a call ends is proved with its code.)
-use Rattle.review.specs.Words.{ℕ, _≡_, Bool, List, view}
+-- answer and some bytes meet the promise, and no second ones do.
+--
+-- That a call ends is proved with its code: each loop, and each function that comes to call itself, has a number that falls.
+--
+--   read_rules, read_net      of lines: the bytes left of the text; of fields, words and records: those left. The term reader
+--                             and the argument-list reader: the levels left of 64, and at one level the arguments left
+--   table_sound, both_sound   the places left of an array; in the walks over cells, the cells not yet met
+--   step                      after both_sound: what is left of the list that waits and of the rule's equations, cells and
+--                             new names, and the places left where a free one is looked for
+--   run                       after both_sound: the steps left of the number that suffices for its budget
+--   read_answer               after both_sound: the cells not yet met, the stuck pairs left, the letters left of a symbol
+--   evaluate                  after these calls: the bytes left of a line, and a number without its last digit
+use Rattle.parts.specs.Limits.{table-size}
+use Rattle.model.specs.State.{zeros}
+use Rattle.review.specs.Words.{ℕ, _≡_, Bool, List, _↔_, state-size, view}
 use Rattle.review.specs.Promises.{StateArray, RulesCall, NetCall, StepCall, RunCall, AnswerCall, EvaluateCall, TableTest, BothTest, EmptyState, EmptyTable, One, Any}
 use Rattle.review.specs.Proofs.Told as Told
 use Rattle.review.specs.Proofs.Exist as Exist
@@ -40,9 +53,9 @@ table-test-once {r = r} {q = q} e f = Told.test-once r q (e .promised) (f .promi
 pub both-test-once : {w v : List ℕ} {r q : Bool} → BothTest w v r → BothTest w v q → r ≡ q
 both-test-once {r = r} {q = q} e f = Told.test-once r q (e .promised) (f .promised)
 
--- The two constructors.
-pub empty-state-once : {r q : List ℕ} → StateArray r → StateArray q → EmptyState r → EmptyState q → r ≡ q
-empty-state-once = Exist.empty-state
+-- What the two constructors answer is zero in every word and in every byte.
+pub empty-state-is : {r : List ℕ} → StateArray r → EmptyState r ↔ (r ≡ zeros state-size)
+empty-state-is = Exist.empty-state
 
-pub empty-table-once : {r q : List ℕ} → EmptyTable r → EmptyTable q → r ≡ q
-empty-table-once = Exist.empty-table
+pub empty-table-is : {r : List ℕ} → EmptyTable r ↔ (r ≡ zeros table-size)
+empty-table-is = Exist.empty-table

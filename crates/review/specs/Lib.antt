@@ -6,7 +6,6 @@ pub mod Demand1Rules
 pub mod Demand1Texts
 pub mod Demand2
 pub mod Demand3
-pub mod Exact
 pub mod Examples
 pub mod Faults
 pub mod Loads

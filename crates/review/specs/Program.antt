@@ -1,36 +1,57 @@
--- What `evaluate` prints of two texts, by the definitions of the other calls; `netrun` adds nothing but the files.
-use mathlib.Core.Path.{_∙_}
-use Rattle.texts.specs.Main as Texts
-use Rattle.report.specs.Firsts.{refusal}
-use Rattle.evaluation.specs.Evaluated.{budget, ending, running, net-printed, rules-printed, evaluated}
-use Rattle.review.specs.Words.{ℕ, _≡_, List, Book, Net, wordRules, wordNet, accepted, tableOf, machine, load, readNet, readRules, RulesRefused, NetRefused, loaded, ended, ran, Sound, meaning, answer}
-use Rattle.review.specs.Proofs.{Runs.end-running}
+-- What `evaluate` prints of two texts: the other calls, made one after another, whatever table and state are lent to them,
+-- "with budget 100,000 and a 65,536 byte output". `netrun` adds nothing but the files.
+use Rattle.rules.specs.declared.RulesAnswer.the-variants as Rules
+use Rattle.nets.specs.declared.NetAnswer.the-variants as Nets
+use Rattle.machine.specs.declared.calls.RunAnswer.the-variants as Run
+use Rattle.answer.specs.declared.EndAnswer.{EndAnswer}
+use Rattle.answer.specs.declared.EndAnswer.the-variants as End
+use Rattle.model.specs.Walk.{paused, noroom}
+use Rattle.report.specs.Firsts.{wordPaused, wordNoroom, wordAnswer, refusal}
+use Rattle.report.specs.Firsts as First
+use Rattle.evaluation.specs.Evaluated.{budget, output-max, evaluated}
+use mathlib.Core.Path.{refl}
+use lib.ListN.{take}
+use Rattle.review.specs.Words.{ℕ, _≡_, List, _++_, length, wordRules, wordNet, view, RunAnswer}
+use Rattle.review.specs.Promises.{RulesCall, NetCall, RunCall, AnswerCall}
+use Rattle.review.specs.Proofs.{Runs.rules-refused, Runs.net-refused, Runs.run-made, Runs.stops, Runs.end-read, Runs.answers, Runs.too-long}
 
--- "A refusal prints `refused`, `rules` or `net` [..], number, line": of the rule text, and then the net text is not looked
--- at;
-pub rules-refused-printed : (rules net : List ℕ) (n j : ℕ) → RulesRefused rules n j
+-- "A refusal prints `refused`, `rules` or `net` or `answer`, number, line (0 for answer), and no other line": of the rule text,
+-- and then the net text is not looked at;
+pub rules-refused-printed : {rules t u : List ℕ} {n j : ℕ} (net : List ℕ) → RulesCall rules t (Rules.Refused n j) u
     → evaluated rules net ≡ refusal wordRules n j
-unfolding evaluated rules-printed
-rules-refused-printed rules net n j r = rw (Texts.rule-text-refused rules n j .1 r)
+rules-refused-printed = rules-refused
 
--- or of the net text.
-pub net-refused-printed : (rules net : List ℕ) (b : Book) → readRules rules ≡ accepted b → (n j : ℕ)
-    → NetRefused (b .agents) net n j → evaluated rules net ≡ refusal wordNet n j
-unfolding evaluated rules-printed net-printed
-net-refused-printed rules net b e n j r = rw (e, Texts.net-text-refused (b .agents) net n j .1 r)
+module _ {rules t w : List ℕ} (net : List ℕ) (read : RulesCall rules t Rules.Accepted w) where
+  -- or of the net text.
+  pub net-refused-printed : {s v : List ℕ} {n j : ℕ} → NetCall net w s (Nets.Refused n j) v
+      → evaluated rules net ≡ refusal wordNet n j
+  net-refused-printed = net-refused net read
 
--- Else what is printed is the run of the loaded net.
-pub run-printed : (rules net : List ℕ) (b : Book) (n : Net) → readRules rules ≡ accepted b
-    → readNet (b .agents) net ≡ accepted n
-    → evaluated rules net
-    ≡ running (b .agents) (machine (tableOf b)) (ran (machine (tableOf b)) budget (loaded (load (b .agents) n)))
-unfolding evaluated rules-printed net-printed
-run-printed rules net b n e f = rw (e, f)
+  module _ {s v : List ℕ} (loaded : NetCall net w s Nets.Accepted v) where
+    -- The run is not refused.
+    pub run-on : {r : RunAnswer} {v′ : List ℕ} → RunCall w v budget r v′ → (¬ (r ≡ Run.Unsound)) × (¬ (r ≡ Run.TooMuch))
+    run-on = run-made net read loaded
 
--- Where it ended, that is the first line, and the lines of the answer of the net that the end stands for.
-pub end-printed : (rules net : List ℕ) (b : Book) (n : Net) → readRules rules ≡ accepted b
-    → readNet (b .agents) net ≡ accepted n
-    → let r = ran (machine (tableOf b)) budget (loaded (load (b .agents) n)) in
-    r .stop ≡ ended → (h : Sound (machine (tableOf b)) (r .state))
-    → evaluated rules net ≡ ending (b .agents) (r .made) (answer (meaning h))
-end-printed rules net b n e f s h = run-printed rules net b n e f ∙ end-running rules net b n e f s h
+    -- "For paused and noroom only the first line, with its first four fields."
+    pub paused-printed : {n : ℕ} {v′ : List ℕ} → RunCall w v budget (Run.Paused n) v′
+        → evaluated rules net ≡ First.stopped wordPaused n ((view v′) .loops)
+    paused-printed c = stops net read loaded c paused _ refl
+
+    pub noroom-printed : {n : ℕ} {v′ : List ℕ} → RunCall w v budget (Run.NoRoom n) v′
+        → evaluated rules net ≡ First.stopped wordNoroom n ((view v′) .loops)
+    noroom-printed c = stops net read loaded c noroom _ refl
+
+    module _ {n : ℕ} {v′ : List ℕ} (ended : RunCall w v budget (Run.Ended n) v′) {o o′ : List ℕ} where
+      -- The answer is not refused, but where it is longer than the output.
+      pub answer-on : {g : EndAnswer} → AnswerCall w v′ o g o′ → (¬ (g ≡ End.Unsound)) × (¬ (g ≡ End.Waits))
+      answer-on = end-read net read loaded ended
+
+      -- "First line: `ran`, word, interactions, loops, stuck pairs, knot cells. Then `face` with its terms, then one `eq` for each
+      -- stuck pair."
+      pub end-printed : {l loops stuck knot : ℕ} → length o ≡ output-max → AnswerCall w v′ o (End.Read l loops stuck knot) o′
+          → evaluated rules net ≡ First.ended n loops stuck knot ++ take l o′
+      end-printed = answers net read loaded ended
+
+      -- 15: "answer longer than the output buffer".
+      pub long-printed : length o ≡ output-max → AnswerCall w v′ o End.Long o′ → evaluated rules net ≡ refusal wordAnswer 15 0
+      long-printed = too-long net read loaded ended

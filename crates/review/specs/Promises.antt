@@ -48,18 +48,19 @@ pub record EmptyState (r : List ℕ) : Type 0 where
 pub record EmptyTable (r : List ℕ) : Type 0 where
   pub promised : r ≡ bytesOf no-table
 
--- One answer and one thing left, of those that can be lent, meet the promise of a call.
+-- One answer, and one thing that it leaves, of those that can be lent, meet the promise of a call.
 pub record One {A : Type 0} (Lent : List ℕ → Type 0) (Call : A → List ℕ → Type 0) : Type 0 where
   pub answer : A
-  pub left : List ℕ
-  pub meets : Call answer left
+  pub leaves : List ℕ
+  pub meets : Call answer leaves
   pub once : (r q : A) (u v : List ℕ) → Lent u → Lent v → Call r u → Call q v → (r ≡ q) × (u ≡ v)
 
 -- Whatever bytes.
 abbrev pub Any : List ℕ → Type 0
 Any u = Unit {0}
 
--- What the reader of the end is to print of a sound state: the answer of the net that it stands for, and its lines.
+-- What the reader of the end is to print of a sound state: the answer of the net that it stands for, and its lines. (By
+-- `one-meaning` in Demand2 they do not depend on how the soundness is shown.)
 abbrev pub net-answer : {w v : List ℕ} → BothSound w v → Answer
 net-answer h = answer (meaning (sound-state h))
 

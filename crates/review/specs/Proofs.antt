@@ -1,11 +1,13 @@
 pub mod AnyCollects
 pub mod Arrays
+pub mod Calls
 pub mod Collecting
 pub mod Computed
 pub mod Exist
 pub mod LoadedSo
 pub mod Made
 pub mod NetTexts
+pub mod OneRun
 pub mod OnlyLoaded
 pub mod Reading
 pub mod Reads

@@ -10,20 +10,18 @@ pub use Rattle.calculus.specs.Descent.{Steps, Normal}
 pub use Rattle.texts.specs.Bytes.{bytes, lines, Line, fault2, fields, Word, In}
 pub use Rattle.texts.specs.Books.{Book, Agent, wordNet, noBook, wordRules, Net, printBook, printNet}
 pub use Rattle.texts.specs.Answers.{accepted, fine, absent, holds, _>>=_, refused, readLines}
-pub use Rattle.texts.specs.RuleText.{rulesOfLines, Counts, headerOf, headerLine, termsOf, ruleLine, meant, fault3, fault4, fault5, fault6, fault7, fault8, fault9, fault10, readRules}
-pub use Rattle.texts.specs.NetText.{netFault5, netFault7, faceAndEqs, netOfLines, faceFields, eqFields, faceNet, moreNet, faceLine, eqLine, readNet}
-pub use Rattle.texts.specs.Refused.{RulesRefused, NetRefused}
+pub use Rattle.texts.specs.RuleText.{Counts, headerOf, headerLine, termsOf, ruleLine, meant, fault3, fault4, fault5, fault6, fault7, fault8, fault9, fault10}
+pub use Rattle.texts.specs.NetText.{netFault5, netFault7, faceAndEqs, netOfLines, faceFields, eqFields, faceNet, moreNet, faceLine, eqLine}
 pub use Rattle.texts.specs.Tests.{Counted, headerTests, ruleTests, faceTests, eqTests, Reads, Loose, NetCounted}
-pub use Rattle.texts.specs.Coded.{tableOf, template, machine, load}
-pub use Rattle.texts.specs.Meaning.{meantRule, meantNet}
+pub use Rattle.texts.specs.Coded.{tableOf, machine, load}
+pub use Rattle.texts.specs.Meaning.{meantNet}
 pub use Rattle.texts.specs.Good.{GoodBook, GoodNet}
 pub use Rattle.texts.specs.Terms.{Term}
 pub use Rattle.model.specs.Step.{picked, moved, place, taken-out, rule-at}
 pub use Rattle.model.specs.Rows.{NoRoom, Row}
 pub use Rattle.model.specs.State.{St, used, empty}
-pub use Rattle.model.specs.Run.{ran}
 pub use Rattle.model.specs.Load.{loaded}
-pub use Rattle.model.specs.Sound.{Means, Sound, meaning, book}
+pub use Rattle.model.specs.Sound.{Sound, meaning, book}
 pub use Rattle.model.specs.Table.{Entry, Table, Found, entry}
 pub use Rattle.model.specs.Walk.{one-use, Stop, ended, paused, noroom, one-made, over, right}
 pub use Rattle.table.specs.Layout.{tableBytes, agentsIn, bytesOf}

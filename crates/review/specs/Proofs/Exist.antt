@@ -3,20 +3,25 @@ use Prim.Native.Nat.{ℕ, _<_}
 use mathlib.Core.Path.{_≡_, refl, sym, ap, subst, _∙_}
 use mathlib.Core.Bool.{Bool, true, false}
 use mathlib.Core.List.{List}
+use mathlib.Core.Logic.{_↔_}
 use native.Mathlib.Omega.{arith}
+use Rattle.parts.specs.Limits.{table-size}
 use Rattle.texts.specs.Books.{Book}
 use Rattle.texts.specs.Answers.{OfText, accepted, refused}
 use Rattle.texts.specs.RuleText.{readRules}
-use Rattle.model.specs.State.{St}
+use Rattle.model.specs.State.{St, zeros}
+use Rattle.model.specs.Proofs.Facts.{zeros-length, zero-at}
 use Rattle.model.specs.Run.{ran}
 use Rattle.model.specs.Kept.{step-sound, walk-sound}
 use Rattle.model.specs.Stopped.{run-is-right}
 use lib.ListN.{length}
 use lib.Seq.{sets}
-use Rattle.state.specs.Layout.{view}
+use Rattle.state.specs.Layout.{state-size, view}
 use Rattle.state.specs.Whole.{whole}
+use Rattle.state.proofs.Counts.{view-zeros}
 use Rattle.sound.specs.Lent.{under}
 use Rattle.table.specs.Layout.{tableBytes}
+use Rattle.table.specs.Laws.Whole.{nothing-bytes}
 use Rattle.lent.specs.Both.{BothSound, sound-table, sound-state}
 use Rattle.lent.specs.Decided.{decided}
 use Rattle.rules.specs.declared.RulesAnswer.{RulesAnswer}
@@ -107,7 +112,7 @@ same-state {v} {w} a b e = whole v w (a .long) (b .long) (a .words) (b .words) e
 
 one : {A : Type 0} {Lent : List ℕ → Type 0} {Call : A → List ℕ → Type 0} → (r : A) × (u : List ℕ) × Call r u
     → ((r q : A) (u v : List ℕ) → Lent u → Lent v → Call r u → Call q v → (r ≡ q) × (u ≡ v)) → One Lent Call
-one s o = record { answer = s .0; left = s .1; meets = s .2; once = o }
+one s o = record { answer = s .0; leaves = s .1; meets = s .2; once = o }
 
 pub rules : (text table : List ℕ) → One Any (RulesCall text table)
 rules text table =
@@ -149,11 +154,18 @@ evaluate rules net o =
     (length (evaluated rules net), sets o 0 (evaluated rules net), record { out = refl; long = refl })
     (λ r q o₁ o₂ a b c d. (c .long ∙ sym (d .long), c .out ∙ sym (d .out)))
 
-pub empty-state : {r q : List ℕ} → StateArray r → StateArray q → EmptyState r → EmptyState q → r ≡ q
-empty-state a b e f = same-state a b (e .promised ∙ sym (f .promised))
+-- What the constructors of an empty state and of an empty table answer is zero throughout.
+zeros-array : (n : ℕ) → n ≡ state-size → StateArray (zeros n)
+zeros-array n e = record { long = zeros-length n ∙ e; words = λ i. omega (arith, zero-at n i) }
 
-pub empty-table : {r q : List ℕ} → EmptyTable r → EmptyTable q → r ≡ q
-empty-table e f = e .promised ∙ sym (f .promised)
+pub empty-state : {r : List ℕ} → StateArray r → EmptyState r ↔ (r ≡ zeros state-size)
+empty-state {r} a = (
+  λ e. same-state a (zeros-array state-size refl) (e .promised ∙ sym (view-zeros state-size (omega arith))),
+  λ e. record { promised = ap view e ∙ view-zeros state-size (omega arith) },
+)
+
+pub empty-table : {r : List ℕ} → EmptyTable r ↔ (r ≡ zeros table-size)
+empty-table = (λ e. e .promised ∙ nothing-bytes, λ e. record { promised = e ∙ sym nothing-bytes })
 
 pub table-test : (w : List ℕ) → (r : Bool) × TableTest w r
 table-test w = (soundTable w, record { promised = Nets.sound-exact w })

@@ -106,7 +106,17 @@ module _ {w v o : List ℕ} {g : EndAnswer} {o′ : List ℕ} (c : AnswerCall w 
   answer-kept (inr (inl e)) = left End.Waits e
   answer-kept (inr (inr e)) = left End.Long e
 
-pub answer-printed : {w v o : List ℕ} {l n k m : ℕ} {o′ : List ℕ} → AnswerCall w v o (End.Read l n k m) o′
-    → Printed w v o l n k m o′
-answer-printed {w} {v} {o} {l} {n} {k} {m} c =
-    subst (Printed w v o l n k m) (sym (ap (λ k. k .out) (c .promised))) (answer-exactly c (End.Read l n k m) .0 refl)
+-- The answer was read exactly if it is printed.
+module _ {w v o : List ℕ} {l n k m : ℕ} {o′ : List ℕ} where
+  pub answer-printed : AnswerCall w v o (End.Read l n k m) o′ → Printed w v o l n k m o′
+  answer-printed c =
+      subst (Printed w v o l n k m) (sym (ap (λ k. k .out) (c .promised))) (answer-exactly c (End.Read l n k m) .0 refl)
+
+  pub printed-answer : Printed w v o l n k m o′ → AnswerCall w v o (End.Read l n k m) o′
+  printed-answer P =
+      record {
+        promised =
+            ap (given (lines l n k m)) (P .out)
+            ∙ ap (λ t. given t (net-lines (P .sound) ++ drop (length (net-lines (P .sound))) o)) (sym (told w v o P))
+            ∙ sym (fits w v o (P .sound) (P .nothing-waits) (P .fits));
+      }

@@ -2,7 +2,7 @@
 use Prim.Native.Nat.{ℕ, zero, suc, _<_}
 use mathlib.Core.Path.{_≡_, refl, sym, ap, ap₂, subst, _∙_}
 use mathlib.Core.List.{List, [], _∷_, _++_, map, List·Memᴰ·head, List·Memᴰ·tail}
-use mathlib.Core.Logic.{inl}
+use mathlib.Core.Logic.{_↔_, inl}
 use native.Mathlib.Omega.{arith}
 use lib.ListN.{length, getD, length-append, length-map}
 use lib.Seq.{ext-getD}
@@ -10,7 +10,7 @@ use Rattle.calculus.specs.Calculus.{Label, Step}
 use Rattle.calculus.specs.Calculus as Calculus
 use Rattle.calculus.specs.Descent.{Steps, Normal}
 use Rattle.calculus.specs.Terms.{Conf}
-use Rattle.model.specs.Table.{Table, Found, no-entry, entry}
+use Rattle.model.specs.Table.{Table, no-entry, entry}
 use Rattle.model.specs.Sound.{Means, book}
 use Rattle.model.specs.Proofs.Books as Books
 use Rattle.texts.specs.Bytes.{In}
@@ -19,12 +19,9 @@ use Rattle.texts.specs.Coded.{template, tableOf, machine}
 use Rattle.texts.specs.Meaning.{meantRule}
 use Rattle.texts.specs.Good.{GoodBook}
 use Rattle.texts.specs.Main as Texts
-use Rattle.sound.specs.Lent.{under}
-use Rattle.lent.specs.Both.{under-is}
-use Rattle.table.specs.Layout.{tableBytes}
-use Rattle.review.specs.Picks.{Accepted, Ends, ReadAs}
+use Rattle.review.specs.Picks.{Accepted, Ends}
 use Rattle.review.specs.Proofs.Sources.{one-entry}
-use Rattle.review.specs.Rulebook.{Written, written, EndsWritten, ReadWritten}
+use Rattle.review.specs.Rulebook.{Written, written, EndsWritten}
 
 -- A place in a list of rules.
 record Placed (l : List Rule) (i : ℕ) : Type 0 where
@@ -134,14 +131,14 @@ module _ {rules net w v : List ℕ} (a : Accepted rules net w v) {M : List Label
         end = normal-by (table-book (a .book)) (written (a .book)) (to-written (a .book) (a .good-book)) (e .end);
       }
 
--- A step read by the rules of the table of a book is read by the written rules.
-pub read-written : (b : Book) → GoodBook b → {w : List ℕ} → w ≡ tableBytes b → {r : Found} {C C′ : Conf}
-    → ReadAs (under w) r C C′ → ReadWritten b r C C′
-read-written b g e (ReadAs.no-change o q) = ReadWritten.no-change o q
-read-written b g e (ReadAs.one-communication o c q) = ReadWritten.one-communication o c q
-read-written b g e (ReadAs.two-communications o c d q) = ReadWritten.two-communications o c d q
-read-written b g {w} e (ReadAs.one-interaction {i = i} {R = R} o f h c q) =
-    ReadWritten.one-interaction o (to-written b g i R (subst (λ T. book T i R) (under-is w b g e) h)) c q
+-- Each place of a book has a rule, and no rule stands further on.
+pub rule-in : (b : Book) (i : ℕ) → i < length (b .rules) → (R : Calculus.Rule) × Written b i R
+rule-in b i h =
+    let p = placed (b .rules) i h in
+    (meantRule (b .agents) (p .rule), record { before = p .before; rule = p .rule; after = p .after; rules = p .rules; number = p .number; means = refl })
+
+pub rule-before-end : {b : Book} {i : ℕ} {R : Calculus.Rule} → Written b i R → i < length (b .rules)
+rule-before-end w = omega (arith, ap length (w .rules), length-append (w .before) (w .rule ∷ w .after), w .number)
 
 -- The table of a book is the only one with its arities, as many rules, and the written rules.
 pub only-table : (b : Book) → GoodBook b → (T : Table) → T .arities ≡ map (λ a. a .arity) (b .agents)
@@ -152,10 +149,20 @@ only-table b g T e l h = ap₂ (λ x y. record { arities = x; rules = y }) e sam
   where
     at : (i : ℕ) → i < length (T .rules) → entry T i ≡ entry (machine (tableOf b)) i
     at i o =
-        let p = placed (b .rules) i (omega (arith, o, l)) in
-        let w : Written b i (meantRule (b .agents) (p .rule)) =
-        record { before = p .before; rule = p .rule; after = p .after; rules = p .rules; number = p .number; means = refl } in
-        one-entry (h i _ w .1) (from-written b g i _ w .1)
+        let w = rule-in b i (omega (arith, o, l)) in one-entry (h i _ (w .1) .1) (from-written b g i _ (w .1) .1)
 
     same : T .rules ≡ map (template (b .agents)) (b .rules)
     same = ext-getD no-entry (T .rules) (map (template (b .agents)) (b .rules)) (l ∙ sym (length-map (b .rules) (template (b .agents)))) at
+
+-- So a table is that of the book exactly if it has these arities, as many rules, and no rules but the written ones.
+pub table-exactly : (b : Book) → GoodBook b → (T : Table)
+    → (T ≡ machine (tableOf b))
+    ↔ ((T .arities ≡ map (λ a. a .arity) (b .agents))
+    × (length (T .rules) ≡ length (b .rules))
+    × ((i : ℕ) (R : Calculus.Rule) → book T i R ↔ Written b i R))
+unfolding machine tableOf
+table-exactly b g T = (
+  λ e.
+      rw e (refl, length-map (b .rules) (template (b .agents)), λ i R. (to-written b g i R, from-written b g i R)),
+  λ (e, l, h). only-table b g T e l (λ i R. h i R .1),
+)
