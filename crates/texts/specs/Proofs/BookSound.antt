@@ -8,11 +8,11 @@ use native.Mathlib.Omega.{arith}
 use lib.ListN.{length}
 use lib.Dec.{ltb}
 use borrow.Author.Tests.{eqb-true, not-false, not-true, ltb-false}
-use Rattle.texts.specs.Bytes.{Word, Line, any, all, same, among, times, In}
+use Rattle.texts.specs.Bytes.{Word, any, all, same, among, times, In}
 use Rattle.texts.specs.Terms.{nodes}
-use Rattle.texts.specs.Books.{Agent, Rule, Book, Record, isAgent, isRule, recordsOf, add, noBook, declared, takes, cellsOf, namesOf, lefts, rights, headOf, argsOf, leftArgs, newNames, wordRules, printBook}
-use Rattle.texts.specs.RuleText.{fault6, fault7, fault8, fault9, fault10, wrongArgs, overNames, allDifferent, rightTimes, wrongTimes, samePair, wireOf, within, mirrored, oneSided, Counts, headerLine, ruleLine, counted, rulesOfLines, readRules}
-use Rattle.texts.specs.Answers.{fine, accepted, readLines, after, afterLine}
+use Rattle.texts.specs.Books.{Agent, Rule, Book, Record, isAgent, isRule, recordsOf, add, noBook, declared, takes, cellsOf, namesOf, lefts, rights, headOf, argsOf, leftArgs, newNames, printBook}
+use Rattle.texts.specs.RuleText.{fault6, fault7, fault8, fault9, fault10, wrongArgs, overNames, allDifferent, rightTimes, wrongTimes, samePair, wireOf, within, mirrored, oneSided, readRules}
+use Rattle.texts.specs.Answers.{accepted}
 use Rattle.texts.specs.Coded.{Table, tableOf}
 use Rattle.texts.specs.Proofs.Tools.{never, both, neither, same-refl, any-false, all-true, among-in, in-among, in-split, Distinct}
 use Rattle.texts.specs.Proofs.RuleMeans.{rules-accepted, lines-good, good-lines, addAll, add-agents, add-rules}
@@ -168,12 +168,6 @@ good-sound b g = record {
 -- An accepted text means a sound book.
 pub accepted-sound : (text : List ℕ) (b : Book) → readRules text ≡ accepted b → SoundBook b
 accepted-sound text b h = good-sound b (rules-accepted text b .0 h .1)
-
--- Header counts are only compared, and nothing else is asked of them.
-pub header-compared : (l : Line) (ls : List Line) (c : Counts) → headerLine wordRules l ≡ fine c
-    → rulesOfLines (l ∷ ls) ≡ after (readLines ruleLine 2 noBook ls) (counted c)
-unfolding rulesOfLines afterLine
-header-compared l ls c e = rw e
 
 -- A sound table is one that some rule text would give if its length had no limit.
 pub sound-table : (t : Table) → SoundTable t ↔ ((b : Book) × GoodBook b × (tableOf b ≡ t))
