@@ -1,4 +1,4 @@
--- The readers' tests of a line, by number; what it is that lines are read; what is compared after all lines.
+-- The readers' tests of a line, by number; lines that are read to their end; what is compared after all lines.
 use mathlib.Core.Path.{_≡_}
 use mathlib.Core.Bool.{Bool, false, not, _&&_}
 use mathlib.Core.List.{List, [], _∷_}
