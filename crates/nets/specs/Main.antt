@@ -3,23 +3,18 @@ use Prim.Native.Nat.{ℕ, _≤_}
 use mathlib.Core.Path.{_≡_}
 use mathlib.Core.Bool.{true, false}
 use mathlib.Core.Logic.{_↔_}
-use mathlib.Core.List.{List, _∷_}
+use mathlib.Core.List.{List}
 use lib.ListN.{length}
 use Rattle.parts.specs.Limits.{text-max}
 use Rattle.calculus.specs.Nets.{_≈_}
 use Rattle.model.specs.State.{St}
 use Rattle.model.specs.Load.{loaded}
 use Rattle.model.specs.Sound as Machine
-use Rattle.texts.specs.Bytes.{Line}
-use Rattle.texts.specs.Books.{Agent, Book, Net, wordNet, printNet}
-use Rattle.texts.specs.Answers.{fine}
-use Rattle.texts.specs.RuleText.{Counts, headerLine}
-use Rattle.texts.specs.NetText.{faceAndEqs, netOfLines}
+use Rattle.texts.specs.Books.{Book, Net, printNet}
 use Rattle.texts.specs.Refused.{NetRefused}
 use Rattle.texts.specs.Coded.{tableOf, machine, load}
 use Rattle.texts.specs.Meaning.{meantNet}
 use Rattle.texts.specs.Good.{GoodBook, GoodNet}
-use Rattle.texts.specs.Main as Texts
 use Rattle.table.specs.Layout.{agentsIn, tableBytes}
 use Rattle.table.specs.Given.{Given}
 use Rattle.nets.specs.Answer.{filled, kept, told, soundTable, netCall}
@@ -64,11 +59,6 @@ accepted-loads text b g s s₁ e =
 pub good-accepted : (b : Book) → GoodBook b → (n : Net) → GoodNet (b .agents) n → length (printNet n) ≤ text-max → (s : St)
     → netCall (printNet n) (tableBytes b) s ≡ filled (loaded (load (b .agents) n))
 good-accepted b g n h l s = Theorems.good-accepted b g n h l s
-
--- Header counts are only compared: they reach nothing but number 11.
-pub header-compared : (ags : List Agent) (l : Line) (ls : List Line) (c : Counts) → headerLine wordNet l ≡ fine c
-    → netOfLines ags (l ∷ ls) ≡ faceAndEqs ags c ls
-header-compared = Texts.net-header-read
 
 -- No second answer, and no second state, meets the promise.
 pub one-answer : (a b : NetAnswer) (s t : St) → told a s ≡ told b t → (a ≡ b) × (s ≡ t)

@@ -1,21 +1,16 @@
 -- What the promise of the reader says, in theorems: every answer is told by the text alone, and nothing else is kept.
 use Prim.Native.Nat.{ℕ, _≤_}
 use mathlib.Core.Path.{_≡_, refl, sym, ap, _∙_}
-use mathlib.Core.Bool.{Bool, true, false, cond, _&&_}
 use mathlib.Core.Logic.{_↔_}
-use mathlib.Core.List.{List, _∷_}
+use mathlib.Core.List.{List}
 use mathlib.Core.Option.{Option, none, some}
 use native.Mathlib.Omega.{arith}
 use lib.ListN.{length}
-use lib.Dec.{eqb}
-use borrow.Author.Tests.{le-ltb, eqb-true}
 use Rattle.parts.specs.Limits.{text-max}
-use Rattle.texts.specs.Bytes.{Line, lines}
-use Rattle.texts.specs.Books.{Book, noBook, wordRules, printBook}
-use Rattle.texts.specs.Answers.{OfText, fine, accepted, refused, readLines, after}
-use Rattle.texts.specs.RuleText.{Counts, headerLine, ruleLine, counted, readRules}
+use Rattle.texts.specs.Books.{Book, printBook}
+use Rattle.texts.specs.Answers.{OfText, accepted, refused}
+use Rattle.texts.specs.RuleText.{readRules}
 use Rattle.texts.specs.Refused.{RulesRefused}
-use Rattle.texts.specs.Tests.{Counted}
 use Rattle.texts.specs.Good.{GoodBook}
 use Rattle.texts.specs.Main as Texts
 use Rattle.table.specs.Layout.{tableBytes}
@@ -97,33 +92,3 @@ refused-exactly text table u n j = (to (readRules text) refl, from)
 
     from : RulesRefused text n j × (u ≡ table) → refusing n j u ≡ leavesBy (readRules text) table
     from (r, e) = rw (Texts.rule-text-refused text n j .1 r, e)
-
--- The header's counts are compared after all lines, and they decide nothing else.
-pub header-compared : (text table : List ℕ) (l : Line) (ls : List Line) (c : Counts) → length text ≤ text-max
-    → lines text ≡ l ∷ ls → headerLine wordRules l ≡ fine c
-    → rulesRead text table ≡ leavesBy (after (readLines ruleLine 2 noBook ls) (counted c)) table
-unfolding rulesRead readRules
-header-compared text table l ls c h e k = rw (le-ltb text-max (length text) h, e, Texts.rule-header l ls c k)
-
--- So what a header says that is not so gives number 11 on line 1 where the lines are good, and else nothing.
-module _ (text table : List ℕ) (l : Line) (ls : List Line) (c : Counts) (short : length text ≤ text-max)
-    (cut : lines text ≡ l ∷ ls) (header : headerLine wordRules l ≡ fine c) where
-  pub bad-line-wins : (n k : ℕ) → readLines ruleLine 2 noBook ls ≡ refused n k
-      → leaves (Refused n k) table ≡ rulesRead text table
-  unfolding leaves refusal leavesBy after
-  bad-line-wins n k e = sym (header-compared text table l ls c short cut header ∙ rw e)
-
-  not-counted : (b : Book) → ¬ Counted c b → counted c b ≡ refused 11 1
-  unfolding counted Counted
-  not-counted b not = go (eqb (c .upper) (length (b .agents))) (eqb (c .lower) (length (b .rules))) refl refl
-    where
-      go : (t u : Bool) → eqb (c .upper) (length (b .agents)) ≡ t → eqb (c .lower) (length (b .rules)) ≡ u
-          → cond (t && u) (accepted b) (refused 11 1) ≡ refused 11 1
-      go false u p q = refl
-      go true false p q = refl
-      go true true p q = absurd (not (eqb-true _ _ p, eqb-true _ _ q))
-
-  pub header-lies : (b : Book) → readLines ruleLine 2 noBook ls ≡ accepted b → ¬ Counted c b
-      → leaves (Refused 11 1) table ≡ rulesRead text table
-  unfolding leaves refusal leavesBy after
-  header-lies b e not = sym (header-compared text table l ls c short cut header ∙ rw (e, not-counted b not))

@@ -85,6 +85,9 @@ pub record Line : Type 0 where
   pub bytes : List ℕ
   pub ended : Bool
 
+unfoldable pub endedLine : List ℕ → Line
+endedLine bs = record { bytes = bs; ended = true }
+
 -- One byte more in front.
 unfoldable pub onLine : ℕ → List Line → List Line
 onLine b [] = record { bytes = b ∷ []; ended = false } ∷ []

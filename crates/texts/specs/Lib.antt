@@ -7,7 +7,6 @@ pub mod NetText
 pub mod Coded
 pub mod Meaning
 pub mod TableTest
-pub mod Tests
 pub mod Refused
 pub mod Good
 pub mod Conditions

@@ -3,7 +3,7 @@ use Prim.Native.Nat.{ℕ, _<_, _≤_}
 use mathlib.Core.Path.{_≡_}
 use mathlib.Core.Bool.{Bool, true, false}
 use mathlib.Core.Logic.{_↔_, _⊎_}
-use mathlib.Core.List.{List, _∷_, _++_}
+use mathlib.Core.List.{List, [], _++_}
 use mathlib.Core.Option.{some}
 use lib.ListN.{length}
 use Rattle.parts.specs.Limits.{text-max}
@@ -16,30 +16,29 @@ use Rattle.model.specs.Sound as Machine
 use Rattle.model.specs.SoundTable as SoundTable
 use Rattle.texts.specs.Bytes.{Word, Line, fields, numberOf, decimal, In}
 use Rattle.texts.specs.Terms.{Term, spell, worded}
-use Rattle.texts.specs.Books.{Agent, Rule, Book, Record, noBook, Net, lefts, rights, wordRules, wordNet, printBook, printNet}
-use Rattle.texts.specs.Answers.{fine, fault, accepted, refused, readLines, after}
-use Rattle.texts.specs.RuleText.{Counts, Shape, headerLine, fault3, fault4, fault7, fault8, fault10, ruleLine, counted, rulesOfLines, readRules}
-use Rattle.texts.specs.NetText.{netFault7, eqLine, faceLine, faceAndEqs, netOfLines, readNet, netRead}
+use Rattle.texts.specs.Books.{Agent, Rule, Book, Record, noBook, Net, lefts, rights, printBook, printNet}
+use Rattle.texts.specs.Answers.{accepted, refused}
+use Rattle.texts.specs.RuleText.{Shape, fault3, fault4, fault7, fault8, fault10, readRules}
+use Rattle.texts.specs.NetText.{netFault7, readNet, netRead}
 use Rattle.texts.specs.Coded.{Table, tableOf, template, machine, load}
 use Rattle.texts.specs.Meaning.{meantRule, meantNet}
 use Rattle.texts.specs.TableTest.{testTable}
-use Rattle.texts.specs.Refused.{First, RulesRefused, NetRefused}
-use Rattle.texts.specs.Tests.{ruleTests, eqTests, faceTests}
+use Rattle.texts.specs.Refused.{Begins, BadLine, records, rulesWritten, RulesRight, RuleWrong, RulesRefused, headed, faced, netWritten, NetRight, NetWrong, NetRefused, miscounted}
 use Rattle.texts.specs.Good.{Spelt, GoodBook, GoodNet, SoundTable}
 use Rattle.texts.specs.Conditions.{shapeFields, Fits, shapeFor, OfRule, Argued, WellNamed, TwoSided, SpeltAgents}
 use Rattle.texts.specs.Proofs.Reader.{termOf}
 use Rattle.texts.specs.Proofs.Spelling.{term-exact}
 use Rattle.texts.specs.Proofs.Splitting.{number-exact}
 use Rattle.texts.specs.Proofs.Scan.{want, scan, done, scan-exact}
-use Rattle.texts.specs.Proofs.RuleExact.{rule-line-exact, rules-refused}
+use Rattle.texts.specs.Proofs.RuleRefusals as Rules
 use Rattle.texts.specs.Proofs.RuleMeans.{rules-accepted, print-unique}
-use Rattle.texts.specs.Proofs.BookSound.{sound-table, header-compared}
+use Rattle.texts.specs.Proofs.BookSound.{sound-table}
 use Rattle.texts.specs.Proofs.Exact.{test-sound}
 use Rattle.texts.specs.Proofs.RuleSound.{fault7-exact, net-fault7-exact, fault8-exact}
 use Rattle.texts.specs.Proofs.TwoSided.{fault10-exact}
-use Rattle.texts.specs.Proofs.NetExact.{face-exact, eq-exact, net-refused}
+use Rattle.texts.specs.Proofs.NetRefusals as Nets
 use Rattle.texts.specs.Proofs.NetMeans.{net-accepted, net-print-unique}
-use Rattle.texts.specs.Proofs.NetRead.{net-header, net-read-refused, net-read-accepted}
+use Rattle.texts.specs.Proofs.NetRead.{net-read-refused, net-read-accepted}
 use Rattle.texts.specs.Proofs.Link.{sound-exact, book-sound, book-means, net-ready, net-closed, accepted-loads}
 use Rattle.texts.specs.Proofs.Shapes.{fault3-exact, fault4-exact}
 
@@ -54,19 +53,6 @@ number-means = number-exact
 -- The flat pass over a field ends well exactly if the field spells a term, at any depth.
 pub flat-pass : (s : List ℕ) → (done (scan (want 0) s) ≡ true) ↔ ((t : Term) × (termOf s ≡ some t))
 flat-pass = scan-exact
-
--- A line is refused with the least number whose condition holds, each condition being over the whole line.
-pub rule-line-refused : (b : Book) (l : Line) (n : ℕ) → (ruleLine b l ≡ fault n) ↔ First (ruleTests b l) n
-rule-line-refused = rule-line-exact
-
--- The same of a `face` line.
-pub face-line-refused : (ags : List Agent) (l : Line) (n : ℕ) → (faceLine ags l ≡ fault n) ↔ First (faceTests ags l) n
-face-line-refused = face-exact
-
--- The same of an `eq` line, after the net m.
-pub eq-line-refused : (ags : List Agent) (m : Net) (l : Line) (n : ℕ)
-    → (eqLine ags m l ≡ fault n) ↔ First (eqTests ags m l) n
-eq-line-refused = eq-exact
 
 -- Number 3: the line's fields are those of no record that may stand there.
 pub number-3 : (b : Book) (l : Line)
@@ -101,12 +87,12 @@ number-10 = fault10-exact
 
 -- A text is refused with number n on line j exactly where `RulesRefused` and `NetRefused` say so.
 pub rule-text-refused : (text : List ℕ) (n j : ℕ) → (readRules text ≡ refused n j) ↔ RulesRefused text n j
-rule-text-refused = rules-refused
+rule-text-refused = Rules.rules-refused
 
 -- The same of a net text, over the agents of a table.
 pub net-text-refused : (ags : List Agent) (text : List ℕ) (n j : ℕ)
     → (readNet ags text ≡ refused n j) ↔ NetRefused ags text n j
-net-text-refused = net-refused
+net-text-refused = Nets.net-refused
 
 -- Number 16 is given on line 0 exactly if the lent table is not sound, before all else.
 pub net-call-refused : (sound : Bool) (ags : List Agent) (text : List ℕ) (n j : ℕ)
@@ -119,15 +105,30 @@ pub net-call-accepted : (sound : Bool) (ags : List Agent) (text : List ℕ) (n :
     → (netRead sound ags text ≡ accepted n) ↔ ((sound ≡ true) × (readNet ags text ≡ accepted n))
 net-call-accepted = net-read-accepted
 
--- Header counts are only compared, after all lines.
-pub rule-header : (l : Line) (ls : List Line) (c : Counts) → headerLine wordRules l ≡ fine c
-    → rulesOfLines (l ∷ ls) ≡ after (readLines ruleLine 2 noBook ls) (counted c)
-rule-header = header-compared
+-- Header counts are only compared. Texts that differ in them alone have the same bad line, wrong by the same number;
+pub bad-line-wins : (text text′ : List ℕ) (m k m′ k′ : ℕ) (ls : List Line)
+    → Begins rulesWritten RulesRight text (records m k noBook) ls
+    → Begins rulesWritten RulesRight text′ (records m′ k′ noBook) ls
+    → (n j : ℕ) → BadLine rulesWritten RulesRight text RuleWrong n j
+    → BadLine rulesWritten RulesRight text′ RuleWrong n j
+bad-line-wins = Rules.bad-line-stays
 
--- The same of a net text: what is compared stands in `faceAndEqs`.
-pub net-header-read : (ags : List Agent) (l : Line) (ls : List Line) (c : Counts) → headerLine wordNet l ≡ fine c
-    → netOfLines ags (l ∷ ls) ≡ faceAndEqs ags c ls
-net-header-read = net-header
+-- and where all lines are good, a count that is not that of the records found gives 11 on line 1.
+pub header-lies : (text : List ℕ) (m k : ℕ) (b : Book) → Begins rulesWritten RulesRight text (records m k b) []
+    → ¬ ((m ≡ length (b .agents)) × (k ≡ length (b .rules))) → readRules text ≡ refused 11 1
+header-lies text m k b g u = Rules.rules-refused text 11 1 .1 (miscounted g u)
+
+-- The same of net texts.
+pub net-bad-line-wins : (ags : List Agent) (text text′ : List ℕ) (m k m′ k′ : ℕ) (ls : List Line)
+    → Begins netWritten (NetRight ags) text (headed m k) ls → Begins netWritten (NetRight ags) text′ (headed m′ k′) ls
+    → (n j : ℕ) → BadLine netWritten (NetRight ags) text (NetWrong ags) n j
+    → BadLine netWritten (NetRight ags) text′ (NetWrong ags) n j
+net-bad-line-wins = Nets.bad-line-stays
+
+pub net-header-lies : (ags : List Agent) (text : List ℕ) (m k : ℕ) (t : Net)
+    → Begins netWritten (NetRight ags) text (faced m k t) []
+    → ¬ ((m ≡ length (t .face)) × (k ≡ length (t .equations))) → readNet ags text ≡ refused 11 1
+net-header-lies ags text m k t g u = Nets.net-refused ags text 11 1 .1 (miscounted g u)
 
 -- Meaning. A text is accepted with meaning b exactly if it is b printed, b is good and the length fits.
 pub rule-text-accepted : (text : List ℕ) (b : Book)

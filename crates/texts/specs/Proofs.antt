@@ -1,4 +1,6 @@
 pub mod Reader
+pub mod LineTests
+pub mod Stops
 pub mod BookSound
 pub mod Firsts
 pub mod Places
@@ -8,6 +10,8 @@ pub mod Means
 pub mod NetExact
 pub mod NetLines
 pub mod NetMeans
+pub mod NetWrongs
+pub mod NetRefusals
 pub mod NetSound
 pub mod NetRead
 pub mod PairTable
@@ -17,6 +21,8 @@ pub mod Reading
 pub mod RuleExact
 pub mod Shapes
 pub mod RuleMeans
+pub mod RuleWrongs
+pub mod RuleRefusals
 pub mod RuleSound
 pub mod Scan
 pub mod Spelling

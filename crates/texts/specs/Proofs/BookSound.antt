@@ -8,10 +8,10 @@ use native.Mathlib.Omega.{arith}
 use lib.ListN.{length}
 use lib.Dec.{ltb}
 use borrow.Author.Tests.{not-false, ltb-false}
-use Rattle.texts.specs.Bytes.{Line, any, same, In}
-use Rattle.texts.specs.Books.{Agent, Rule, Book, Record, isAgent, isRule, recordsOf, add, noBook, declared, cellsOf, rights, headOf, newNames, wordRules, printBook}
-use Rattle.texts.specs.RuleText.{fault6, fault9, fault10, samePair, wireOf, within, mirrored, oneSided, Counts, headerLine, ruleLine, counted, rulesOfLines, readRules}
-use Rattle.texts.specs.Answers.{fine, accepted, readLines, after, afterLine}
+use Rattle.texts.specs.Bytes.{any, same, In}
+use Rattle.texts.specs.Books.{Agent, Rule, Book, Record, isAgent, isRule, recordsOf, add, noBook, declared, cellsOf, rights, headOf, newNames, printBook}
+use Rattle.texts.specs.RuleText.{fault6, fault9, fault10, samePair, wireOf, within, mirrored, oneSided, readRules}
+use Rattle.texts.specs.Answers.{accepted}
 use Rattle.texts.specs.Coded.{Table, tableOf}
 use Rattle.texts.specs.Proofs.Tools.{never, both, neither, pair, noneOf, same-refl, in-split}
 use Rattle.texts.specs.Proofs.RuleMeans.{rules-accepted, lines-good, good-lines, addAll, add-agents, add-rules}
@@ -112,12 +112,6 @@ good-sound b g = record {
 -- An accepted text means a sound book.
 pub accepted-sound : (text : List ℕ) (b : Book) → readRules text ≡ accepted b → SoundBook b
 accepted-sound text b h = good-sound b (rules-accepted text b .0 h .1)
-
--- Header counts are only compared, and nothing else is asked of them.
-pub header-compared : (l : Line) (ls : List Line) (c : Counts) → headerLine wordRules l ≡ fine c
-    → rulesOfLines (l ∷ ls) ≡ after (readLines ruleLine 2 noBook ls) (counted c)
-unfolding rulesOfLines afterLine
-header-compared l ls c e = rw e
 
 -- A sound table is one that some rule text would give if its length had no limit.
 pub sound-table : (t : Table) → SoundTable t ↔ ((b : Book) × GoodBook b × (tableOf b ≡ t))

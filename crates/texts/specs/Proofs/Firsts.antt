@@ -1,6 +1,6 @@
 -- The first of some tests that holds; and answers that agree with it.
-use Prim.Native.Nat.{ℕ, zero, suc, _+_, _<_}
-use mathlib.Core.Path.{_≡_, refl}
+use Prim.Native.Nat.{ℕ, zero, suc, _+_, _<_, _≤_}
+use mathlib.Core.Path.{_≡_, refl, sym, ap, _∙_}
 use mathlib.Core.Bool.{Bool, true, false}
 use mathlib.Core.Logic.{_↔_}
 use mathlib.Core.List.{List, [], _∷_}
@@ -9,7 +9,7 @@ use native.Mathlib.Omega.{arith}
 use lib.ListN.{getD}
 use Rattle.texts.specs.Answers.{OfLine, fine, fault, need, refuse}
 use Rattle.texts.specs.Proofs.Tools.{never, never′}
-use Rattle.texts.specs.Refused.{First}
+use Rattle.texts.specs.Proofs.Stops.{First}
 
 first-zero : (ts : List Bool) → First (true ∷ ts) 0
 first-zero ts = record { holds = refl; least = λ m h. absurd (omega arith) }
@@ -62,6 +62,33 @@ module _ {A : Type 0} {k : ℕ} where
   pub agrees-some : {B : Type 0} (f : B → OfLine A) (b : B) (ts : List Bool) → Agrees (suc k) (f b) ts → Agrees k (need k (some b) f) (false ∷ ts)
   unfolding need
   agrees-some f b ts g = agrees-skip (f b) ts g
+
+-- The least number of some conditions is that of the first test to hold, where a test gives its condition, and a condition its
+-- test or one before it.
+abbrev pub Least : (ℕ → Type 0) → ℕ → Type 0
+Least W n = W n × ((m : ℕ) → m < n → ¬ W m)
+
+pub first-exact : (ts : List Bool) (W : ℕ → Type 0) → ((m : ℕ) → getD ts m false ≡ true → W m)
+    → ((m : ℕ) → W m → (k : ℕ) × (k ≤ m) × (getD ts k false ≡ true))
+    → (n : ℕ) → First ts n ↔ Least W n
+first-exact ts W gives given n = (to, from)
+  where
+    to : First ts n → Least W n
+    to f = (gives n (f .holds), λ m h w. let p = given m w in never (sym (f .least (p .0) (omega (arith, p .1))) ∙ p .2))
+
+    from : Least W n → First ts n
+    from (w, none-lower) = record { holds = here (getD ts n false) refl; least = λ m h. below m h (getD ts m false) refl }
+      where
+        below : (m : ℕ) → m < n → (t : Bool) → getD ts m false ≡ t → t ≡ false
+        below m h true e = absurd (none-lower m h (gives m e))
+        below m h false e = refl
+
+        here : (t : Bool) → getD ts n false ≡ t → t ≡ true
+        here true e = refl
+        here false e =
+            let p = given n w in
+            let z : ¬ (p .0 ≡ n) = λ q. never (sym e ∙ (ap (λ i. getD ts i false) (sym q) ∙ p .2)) in
+            absurd (none-lower (p .0) (omega (arith, p .1)) (gives (p .0) (p .2)))
 
 pub agrees-first : {A : Type 0} (r : OfLine A) (ts : List Bool) → Agrees 0 r ts → (n : ℕ) → (r ≡ fault n) ↔ First ts n
 agrees-first r ts g n = (

@@ -10,7 +10,7 @@ use borrow.Author.Tests.{not-false}
 use Rattle.texts.specs.Bytes.{Word, Line, all, same, wordByte, fault2, fields, numberOf, decimal}
 use Rattle.texts.specs.Terms.{Term, spell, worded}
 use Rattle.texts.specs.Books.{Equation, sides, pairs, writeHeader}
-use Rattle.texts.specs.Answers.{OfLine, fine, need, refuse, _>>=_}
+use Rattle.texts.specs.Answers.{OfLine, fine, absent, need, refuse, _>>=_}
 use Rattle.texts.specs.RuleText.{Counts, headerOf, headerLine, termsOf, even}
 use Rattle.texts.specs.Proofs.Tools.{never, both, pair, neither, same-refl, same-eq, found}
 use Rattle.texts.specs.Proofs.Splitting.{endedLine, fields-line, line-fields, number-decimal, decimal-number}
@@ -106,6 +106,18 @@ header-of w (f ∷ m ∷ n ∷ g ∷ gs) c h = nothing h
 of-header : (w : Word) (c : Counts) → Small c → headerOf w (w ∷ decimal (c .upper) ∷ decimal (c .lower) ∷ []) ≡ some c
 unfolding headerOf _>>=_
 of-header w c s = rw (same-refl w, number-decimal (c .upper) (s .0), number-decimal (c .lower) (s .1))
+
+-- No header's fields: a word and two numbers.
+pub header-absent : (w : Word) (fs : List Word)
+    → (absent (headerOf w fs) ≡ true)
+    ↔ (¬ ((m : ℕ) × (n : ℕ) × (m < 10000) × (n < 10000) × (fs ≡ w ∷ decimal m ∷ decimal n ∷ [])))
+unfolding absent
+header-absent w fs = (λ h (m, n, p, q, e). never (sym (ap absent (ap (headerOf w) e ∙ of-header w (record { upper = m; lower = n }) (p, q))) ∙ h), from (headerOf w fs) refl)
+  where
+    from : (o : Option Counts) → headerOf w fs ≡ o → ¬ ((m : ℕ) × (n : ℕ) × (m < 10000) × (n < 10000) × (fs ≡ w ∷ decimal m ∷ decimal n ∷ []))
+        → absent o ≡ true
+    from none e k = refl
+    from (some c) e k = let p = header-of w fs c e in absurd (k (c .upper, c .lower, p .1 .0, p .1 .1, sym (p .0)))
 
 pub some-plain : (w : Word) (ws : List Word) → Plain w → Plains ws → Plains (w ∷ ws)
 unfolding all

@@ -1,27 +1,23 @@
--- Net texts are refused exactly by document 01's order.
-use Prim.Native.Nat.{ℕ, suc, _+_}
-use mathlib.Core.Path.{_≡_, refl, sym, ap, _∙_}
-use mathlib.Core.Bool.{Bool, true, false, cond, not, _&&_}
-use mathlib.Core.Logic.{_↔_, _≢_, _⊎_, inl, inr}
-use mathlib.Core.List.{List, [], _∷_, _++_}
+-- The reader of net texts stops at the earliest bad line, by the least number whose test holds of it; and what it answers after all lines.
+use Prim.Native.Nat.{ℕ}
+use mathlib.Core.Path.{_≡_, refl, sym, ap}
+use mathlib.Core.Bool.{Bool, true, false, not, _&&_}
+use mathlib.Core.Logic.{_↔_, _⊎_, inl, inr}
+use mathlib.Core.List.{List, [], _∷_}
 use mathlib.Core.Option.{Option, none, some}
 use native.Mathlib.Omega.{arith}
 use lib.ListN.{length}
-use lib.Dec.{ltb}
-use borrow.Author.Tests.{ltb-true, ltb-false, lt-ltb, le-ltb, eqb-true, eqb-false, not-true, not-false}
-use Rattle.parts.specs.Limits.{text-max}
-use Rattle.texts.specs.Bytes.{Word, Line, any, times, fault2, fields, lines, In}
+use Rattle.texts.specs.Bytes.{Word, Line, fault2, fields}
 use Rattle.texts.specs.Terms.{Term}
 use Rattle.texts.specs.Books.{Agent, Net, namesOf, netTerms, wordNet}
 use Rattle.texts.specs.Answers.{fine, fault, OfText, refused, absent, holds, _>>=_, need, readLines, after}
 use Rattle.texts.specs.RuleText.{Counts, headerLine, termsOf}
-use Rattle.texts.specs.NetText.{faceFields, eqFields, netFault5, netFault7, netJudged, faceNet, moreNet, faceLine, eqLine, loose, netLines, looseLine, unlessLoose, namesTwice, netCounted, faceAndEqs, netOfLines, readNet}
-use Rattle.texts.specs.Proofs.Tools.{neither, any-true, any-false}
+use Rattle.texts.specs.NetText.{faceFields, eqFields, netFault5, netFault7, netJudged, faceNet, moreNet, faceLine, eqLine, netLines, looseLine, unlessLoose, namesTwice, netCounted, faceAndEqs, netOfLines}
 use Rattle.texts.specs.Proofs.Firsts.{Agrees, agrees-fine, agrees-skip, agrees-refuse, agrees-none, agrees-some, agrees-first}
 use Rattle.texts.specs.Proofs.Reading.{lines-accepted, lines-refused, After, before, behind, after-refused, AfterLine, here, later, line-refused}
 use Rattle.texts.specs.Proofs.RuleExact.{header-exact, counts-exact}
-use Rattle.texts.specs.Refused.{First, NetLinesRefused, noLine, badHeader, noFace, badFace, badLine, badCount, badName, NetRefused, tooLong, inLines}
-use Rattle.texts.specs.Tests.{netTests, faceTests, eqTests, Reads, LooseAt, Loose, NetCounted}
+use Rattle.texts.specs.Proofs.Stops.{First, NetLinesRefused, noLine, badHeader, noFace, badFace, badLine, badCount, badName}
+use Rattle.texts.specs.Proofs.LineTests.{netTests, faceTests, eqTests, Reads, NetCounted}
 
 -- A line.
 terms-agree : (ags : List Agent) (net : List Term → Net) (ts : List Term)
@@ -57,78 +53,14 @@ eq-exact ags m l n =
     agrees-first _ _ (agrees-skip _ _ (agrees-skip _ _ (agrees-refuse (fault2 l) _ _ (fields-agree ags (moreNet m) (eqFields (fields (l .bytes))))))) n
 
 -- The earliest loose name.
-to-loose : (ags : List Agent) (names : List Word) (tss : List (List Term)) (k j : ℕ) → looseLine ags names k tss ≡ some j
-    → (i : ℕ) × (j ≡ k + i) × LooseAt ags names tss i
-unfolding looseLine any
-to-loose ags names [] k j h = absurd (let z : _≡_ {A = ℕ} 0 1 = cc in omega arith)
-to-loose ags names (ts ∷ tss) k j h = go (any (loose names) (namesOf ags ts)) refl h (to-loose ags names tss (suc k) j)
-  where
-    go : (t : Bool) → any (loose names) (namesOf ags ts) ≡ t → cond t (some k) (looseLine ags names (suc k) tss) ≡ some j
-        → (looseLine ags names (suc k) tss ≡ some j → (i : ℕ) × (j ≡ suc k + i) × LooseAt ags names tss i)
-        → (i : ℕ) × (j ≡ k + i) × LooseAt ags names (ts ∷ tss) i
-    go true e x ih =
-        let z : k ≡ j = cc in
-        (0, omega arith, record { good = []; bad = ts; rest = tss; parts = refl; none-before = refl; loose-here = e; place = refl })
-    go false e x ih =
-        let p = ih x in (
-          suc (p .0),
-          omega (arith, p .1),
-          record {
-            good = ts ∷ p .2 .good;
-            bad = p .2 .bad;
-            rest = p .2 .rest;
-            parts = ap (λ (l : List (List Term)). ts ∷ l) (p .2 .parts);
-            none-before = rw e (p .2 .none-before);
-            loose-here = p .2 .loose-here;
-            place = ap suc (p .2 .place);
-          },
-        )
-
-from-loose : (ags : List Agent) (names : List Word) (good : List (List Term)) (bad : List Term) (rest : List (List Term)) (k : ℕ)
-    → any (λ ts. any (loose names) (namesOf ags ts)) good ≡ false → any (loose names) (namesOf ags bad) ≡ true
-    → looseLine ags names k (good ++ (bad ∷ rest)) ≡ some (k + length good)
-unfolding looseLine any
-from-loose ags names [] bad rest k h e = let z : k + 0 ≡ k = omega arith in rw (e, z)
-from-loose ags names (ts ∷ good) bad rest k h e =
-    let p = neither (any (loose names) (namesOf ags ts)) _ h in
-    let z : k + suc (length good) ≡ suc k + length good = omega arith in
-    rw (p .0, z) (from-loose ags names good bad rest (suc k) (p .1) e)
-
--- That line is where an offending name first occurs, and it is the earliest such: the names of the lines before occur twice each.
-pub loose-first : (ags : List Agent) (names : List Word) (tss : List (List Term)) (i : ℕ) (l : LooseAt ags names tss i)
-    → (w : Word) × In w (namesOf ags (l .bad)) × (times w names ≢ 2)
-    × ((ts : List Term) → In ts (l .good) → (v : Word) → In v (namesOf ags ts) → (times v names ≡ 2) × (v ≢ w))
-unfolding loose
-loose-first ags names tss i l =
-    let p = any-true (loose names) (namesOf ags (l .bad)) (l .loose-here) in
-    let ne : times (p .0) names ≢ 2 = eqb-false (times (p .0) names) 2 (not-true _ (p .2)) in (
-      p .0,
-      p .1,
-      ne,
-      λ ts m v k.
-          let h = any-false (λ us. any (loose names) (namesOf ags us)) ts (l .good) (l .none-before) m in
-          let e : times v names ≡ 2 = eqb-true (times v names) 2 (not-false _ (any-false (loose names) v (namesOf ags ts) h k)) in
-          (e, λ z. ne (ap (λ (x : Word). times x names) (sym z) ∙ e)),
-    )
-
-twice-exact : (ags : List Agent) (n : Net) (m j : ℕ) → (namesTwice ags n ≡ refused m j) ↔ ((i : ℕ) × Loose ags n i × (m ≡ 8) × (j ≡ 2 + i))
+twice-exact : (ags : List Agent) (n : Net) (m j : ℕ)
+    → (namesTwice ags n ≡ refused m j) ↔ ((looseLine ags (namesOf ags (netTerms n)) 2 (netLines n) ≡ some j) × (m ≡ 8))
 unfolding namesTwice unlessLoose
-twice-exact ags n m j = (to (looseLine ags (namesOf ags (netTerms n)) 2 (netLines n)) refl, from)
+twice-exact ags n m j = (to (looseLine ags (namesOf ags (netTerms n)) 2 (netLines n)), λ p. rw (p .0, p .1))
   where
-    to : (o : Option ℕ) → looseLine ags (namesOf ags (netTerms n)) 2 (netLines n) ≡ o → unlessLoose o n ≡ refused m j
-        → (i : ℕ) × Loose ags n i × (m ≡ 8) × (j ≡ 2 + i)
-    to none e h = absurd (let z : _≡_ {A = ℕ} 0 1 = cc in omega arith)
-    to (some k) e h =
-        let p = to-loose ags (namesOf ags (netTerms n)) (netLines n) 2 k e in
-        let x : 8 ≡ m = cc in
-        let y : k ≡ j = cc in
-        (p .0, p .2, sym x, sym y ∙ p .1)
-
-    from : (i : ℕ) × Loose ags n i × (m ≡ 8) × (j ≡ 2 + i) → namesTwice ags n ≡ refused m j
-    from (i, l, x, y) =
-        let e : looseLine ags (namesOf ags (netTerms n)) 2 (netLines n) ≡ some (2 + length (l .good)) = rw (l .parts)
-        (from-loose ags (namesOf ags (netTerms n)) (l .good) (l .bad) (l .rest) 2 (l .none-before) (l .loose-here)) in
-        rw (e, x, y, l .place)
+    to : (o : Option ℕ) → unlessLoose o n ≡ refused m j → (o ≡ some j) × (m ≡ 8)
+    to none h = absurd (let z : _≡_ {A = ℕ} 0 1 = cc in omega arith)
+    to (some k) h = (let y : k ≡ j = cc in ap some y, (let x : 8 ≡ m = cc in sym x))
 
 -- A text.
 module _ (ags : List Agent) (n j : ℕ) where
@@ -142,7 +74,7 @@ module _ (ags : List Agent) (n j : ℕ) where
       → NetLinesRefused ags (l ∷ f ∷ ls) n j
   unfolding NetCounted
   last l f ls c e m fe net r (inl (p, q, x)) =
-      let t = twice-exact ags net n j .0 x in badName l f ls refl c e m fe net r (p, q) (t .0) (t .1) (t .2) (t .3)
+      let t = twice-exact ags net n j .0 x in badName l f ls refl c e m fe net r (p, q) (t .0) (t .1)
   last l f ls c e m fe net r (inr (u, x, y)) = badCount l f ls refl c e m fe net r u x y
 
   mid : (l f : Line) (ls : List Line) (c : Counts) → headerLine wordNet l ≡ fine c → (m : Net) → faceLine ags f ≡ fine m
@@ -202,18 +134,10 @@ module _ (ags : List Agent) (n j : ℕ) where
       (after-refused (readLines (eqLine ags) 3 m rest) (netCounted ags c) n j .1 (before (lines-refused (eqLine ags) 3 m rest n j .1 (i, y, st))))))
   from-lines ls (badCount h f rest e c k m fe net r u x y) =
       rw e (by-header h (f ∷ rest) c k (by-face f rest c m fe (by-lines rest c m net r (inr (u, x, y)))))
-  from-lines ls (badName h f rest e c k m fe net r w i l x y) =
-      rw e (by-header h (f ∷ rest) c k (by-face f rest c m fe (by-lines rest c m net r (inl (w .0, w .1, twice-exact ags net n j .1 (i, l, x, y))))))
+  from-lines ls (badName h f rest e c k m fe net r w l x) =
+      rw e (by-header h (f ∷ rest) c k (by-face f rest c m fe (by-lines rest c m net r (inl (w .0, w .1, twice-exact ags net n j .1 (l, x))))))
 
--- A net text is refused with number n and line j exactly so.
-pub net-refused : (ags : List Agent) (text : List ℕ) (n j : ℕ) → (readNet ags text ≡ refused n j) ↔ NetRefused ags text n j
-unfolding readNet
-net-refused ags text n j = (to (ltb text-max (length text)) refl, from)
-  where
-    to : (t : Bool) → ltb text-max (length text) ≡ t → cond t (refused 1 0) (netOfLines ags (lines text)) ≡ refused n j → NetRefused ags text n j
-    to true e h = let x : 1 ≡ n = cc in let y : 0 ≡ j = cc in tooLong (ltb-true text-max (length text) e) (sym x) (sym y)
-    to false e h = inLines (ltb-false text-max (length text) e) (to-lines ags n j (lines text) h)
-
-    from : NetRefused ags text n j → cond (ltb text-max (length text)) (refused 1 0) (netOfLines ags (lines text)) ≡ refused n j
-    from (tooLong e x y) = rw (lt-ltb text-max (length text) e, x, y)
-    from (inLines e r) = rw (le-ltb text-max (length text) e) (from-lines ags n j (lines text) r)
+-- The lines of a net text are refused exactly so.
+pub net-lines-refused : (ags : List Agent) (ls : List Line) (n j : ℕ)
+    → (netOfLines ags ls ≡ refused n j) ↔ NetLinesRefused ags ls n j
+net-lines-refused ags ls n j = (to-lines ags n j ls, from-lines ags n j ls)

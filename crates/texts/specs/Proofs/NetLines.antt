@@ -35,7 +35,7 @@ unfolding netJudged refuse
 fine-judged ags ts n g = rw (g .no5, g .no7)
 
 -- `face`.
-face-fields : (fs gs : List Word) → faceFields fs ≡ some gs → fs ≡ wordFace ∷ gs
+pub face-fields : (fs gs : List Word) → faceFields fs ≡ some gs → fs ≡ wordFace ∷ gs
 unfolding faceFields
 face-fields [] gs h = nothing h
 face-fields (w ∷ fs) gs h = go (same w wordFace) refl h
@@ -44,7 +44,7 @@ face-fields (w ∷ fs) gs h = go (same w wordFace) refl h
     go true e k = let z : fs ≡ gs = cc in rw (same-eq w wordFace e, z)
     go false e k = nothing k
 
-fields-face : (gs : List Word) → faceFields (wordFace ∷ gs) ≡ some gs
+pub fields-face : (gs : List Word) → faceFields (wordFace ∷ gs) ≡ some gs
 unfolding faceFields same
 fields-face gs = refl
 
@@ -78,7 +78,7 @@ face-fine ags l n = (to, from)
     from : (ts : List Term) × (l ≡ endedLine (writeFace ts)) × GoodTerms ags ts (faceNet ts) × (faceNet ts ≡ n) → faceLine ags l ≡ fine n
     from (ts, e, g, z) = rw (e, ← z) (face-back ags ts g)
 
-eq-fields : (fs gs : List Word) → eqFields fs ≡ some gs → (f : Word) × (g : Word) × (fs ≡ wordEq ∷ f ∷ g ∷ []) × (gs ≡ f ∷ g ∷ [])
+pub eq-fields : (fs gs : List Word) → eqFields fs ≡ some gs → (f : Word) × (g : Word) × (fs ≡ wordEq ∷ f ∷ g ∷ []) × (gs ≡ f ∷ g ∷ [])
 unfolding eqFields
 eq-fields [] gs h = nothing h
 eq-fields (w ∷ []) gs h = nothing h
@@ -91,7 +91,7 @@ eq-fields (w ∷ f ∷ g ∷ []) gs h = go (same w wordEq) refl h
     go false e k = nothing k
 eq-fields (w ∷ f ∷ g ∷ h ∷ hs) gs k = nothing k
 
-fields-eq : (f g : Word) → eqFields (wordEq ∷ f ∷ g ∷ []) ≡ some (f ∷ g ∷ [])
+pub fields-eq : (f g : Word) → eqFields (wordEq ∷ f ∷ g ∷ []) ≡ some (f ∷ g ∷ [])
 unfolding eqFields same
 fields-eq f g = refl
 
@@ -109,7 +109,7 @@ eq-back ags n e g =
     (fine-judged ags (termsIn e) (moreNet n (termsIn e)) g)
 
 -- Two fields are two terms.
-two-terms : (ts : List Term) (f g : Word) → map spell ts ≡ f ∷ g ∷ [] → (e : Equation) × (ts ≡ termsIn e)
+pub two-terms : (ts : List Term) (f g : Word) → map spell ts ≡ f ∷ g ∷ [] → (e : Equation) × (ts ≡ termsIn e)
 two-terms [] f g h = absurd (let z : _≡_ {A = ℕ} 0 1 = cc in omega arith)
 two-terms (s ∷ []) f g h = absurd (let z : _≡_ {A = ℕ} 0 1 = cc in omega arith)
 two-terms (s ∷ t ∷ []) f g h = (record { left = s; right = t }, refl)

@@ -22,7 +22,7 @@ use Rattle.texts.specs.Proofs.Plain.{word-plain, spells-plain, decimal-p
 use Rattle.texts.specs.Proofs.Means.{two, header-fine}
 use Rattle.texts.specs.Proofs.NetLines.{words-plain, face-back, face-fine, eq-back, eq-fine}
 use Rattle.texts.specs.Proofs.Reading.{lines-accepted, after-accepted, line-accepted}
-use Rattle.texts.specs.Tests.{Reads}
+use Rattle.texts.specs.Proofs.LineTests.{Reads}
 use Rattle.texts.specs.Good.{GoodTerms, termsIn, GoodEquations, GoodNet}
 
 -- The lines of a text.
@@ -130,7 +130,7 @@ twice-accepted ags n n′ = (to (looseLine ags names 2 (netLines n)) refl, from)
     from (h, z) = rw (from-none ags (namesOf ags (netTerms n)) 2 (netLines n) (rw flat-lines h), z)
 
 -- The whole text.
-word-net : all wordByte wordNet ≡ true
+pub word-net : all wordByte wordNet ≡ true
 unfolding all wordByte letter digit
 word-net = refl
 
@@ -200,29 +200,58 @@ net-good-small ags n g =
 linesOf : Net → List Line
 linesOf n = endedLine (headOf n) ∷ endedLine (writeFace (n .face)) ∷ map lineFor (n .equations)
 
--- From a face and its equations.
-made : (ags : List Agent) (c : Counts) (h f : Line) (ls : List Line) (m a n : Net) (ts : List Term) (es : List Equation)
-    → headerLine wordNet h ≡ fine c → f ≡ endedLine (writeFace ts) → GoodTerms ags ts (faceNet ts) → faceNet ts ≡ m
-    → ls ≡ map lineFor es → GoodEquations ags m es → a ≡ addEqs m es
-    → c ≡ countsOf n → any (loose (namesOf ags (netTerms a))) (namesOf ags (netTerms a)) ≡ false → a ≡ n
-    → (h ∷ f ∷ ls ≡ linesOf n) × GoodNet ags n
-unfolding linesOf faceNet
-made ags c h f ls m a n ts es he fe g z le gs ae ce tw an =
-    let w : h ≡ endedLine (headOf n) = header-fine wordNet word-net h (countsOf n) .0 (he ∙ ap fine ce) .0 in
-    let e : n ≡ record { face = ts; equations = es } = sym an ∙ (ae ∙ (ap (λ (x : Net). addEqs x es) (sym z) ∙ add-all es (faceNet ts))) in
-    let tf : ts ≡ n .face = sym (ap (λ (x : Net). x .face) e) in
-    let te : es ≡ n .equations = sym (ap (λ (x : Net). x .equations) e) in (
-      cons-eq w (cons-eq (fe ∙ ap (λ (x : List Term). endedLine (writeFace x)) tf) (le ∙ ap (map lineFor) te)),
-      record {
-        good-face = rw tf at g;
-        good-equations = parts ts es (n .face) (n .equations) tf te (rw (← z) at gs);
-        twice = rw an at tw;
-      },
-    )
+-- A face and equations are read as a net exactly where they are that net's, and it is good so far.
+pub record FaceAndEquations (ags : List Agent) (f : Line) (ls : List Line) (n : Net) : Type 0 where
+  pub face-line : f ≡ endedLine (writeFace (n .face))
+  pub equation-lines : ls ≡ map endedLine (map writeEquation (n .equations))
+  pub good-face : GoodTerms ags (n .face) (faceNet (n .face))
+  pub good-equations : GoodEquations ags (faceNet (n .face)) (n .equations)
+
+lines-map : (es : List Equation) → map endedLine (map writeEquation es) ≡ map lineFor es
+lines-map [] = refl
+lines-map (e ∷ es) = rw (lines-map es)
+
+pub net-lines : (ags : List Agent) (f : Line) (ls : List Line) (n : Net)
+    → ((m : Net) × (faceLine ags f ≡ fine m) × Reads (eqLine ags) m ls n) ↔ FaceAndEquations ags f ls n
+unfolding faceNet
+net-lines ags f ls n = (to, from)
   where
-    parts : (ts : List Term) (es : List Equation) (us : List Term) (ds : List Equation) → ts ≡ us → es ≡ ds
-        → GoodEquations ags (faceNet ts) es → GoodEquations ags (faceNet us) ds
-    parts ts es us ds p q g = rw (p, q) at g
+    parts : (ts us : List Term) (es ds : List Equation) (m : Net) → ts ≡ us → es ≡ ds → faceNet ts ≡ m
+        → GoodEquations ags m es → GoodEquations ags (faceNet us) ds
+    parts ts us es ds m p q z g = rw (p, q) at (rw (← z) at g)
+
+    to : (m : Net) × (faceLine ags f ≡ fine m) × Reads (eqLine ags) m ls n → FaceAndEquations ags f ls n
+    to (m, fe, r) =
+        let w = face-fine ags f m .0 fe in
+        let v = to-equations ags ls m n r in
+        let e : n ≡ record { face = w .0; equations = v .0 } = v .3 ∙ (ap (λ (x : Net). addEqs x (v .0)) (sym (w .3)) ∙ add-all (v .0) (faceNet (w .0))) in
+        let tf : w .0 ≡ n .face = sym (ap (λ (x : Net). x .face) e) in
+        let te : v .0 ≡ n .equations = sym (ap (λ (x : Net). x .equations) e) in
+        record {
+          face-line = w .1 ∙ ap (λ (x : List Term). endedLine (writeFace x)) tf;
+          equation-lines = v .1 ∙ (ap (map lineFor) te ∙ sym (lines-map (n .equations)));
+          good-face = rw tf at (w .2);
+          good-equations = parts (w .0) (n .face) (v .0) (n .equations) m tf te (w .3) (v .2);
+        }
+
+    from : FaceAndEquations ags f ls n → (m : Net) × (faceLine ags f ≡ fine m) × Reads (eqLine ags) m ls n
+    from p = (
+      faceNet (n .face),
+      rw (p .face-line) (face-back ags (n .face) (p .good-face)),
+      rw (p .equation-lines, lines-map (n .equations)) (rw face-all at (of-equations ags (n .equations) (faceNet (n .face)) (p .good-equations))),
+    )
+
+made : (ags : List Agent) (c : Counts) (h f : Line) (ls : List Line) (a n : Net)
+    → headerLine wordNet h ≡ fine c → FaceAndEquations ags f ls a → c ≡ countsOf n
+    → any (loose (namesOf ags (netTerms a))) (namesOf ags (netTerms a)) ≡ false → a ≡ n
+    → (h ∷ f ∷ ls ≡ linesOf n) × GoodNet ags n
+unfolding linesOf
+made ags c h f ls a n he p ce tw an =
+    let w : h ≡ endedLine (headOf n) = header-fine wordNet word-net h (countsOf n) .0 (he ∙ ap fine ce) .0 in
+    let q : FaceAndEquations ags f ls n = rw an at p in (
+      cons-eq w (cons-eq (q .face-line) (q .equation-lines ∙ lines-map (n .equations))),
+      record { good-face = q .good-face; good-equations = q .good-equations; twice = rw an at tw },
+    )
 
 to-face : (ags : List Agent) (h : Line) (c : Counts) (ls : List Line) (n : Net) → headerLine wordNet h ≡ fine c → faceAndEqs ags c ls ≡ accepted n
     → (h ∷ ls ≡ linesOf n) × GoodNet ags n
@@ -232,9 +261,8 @@ to-face ags h c (f ∷ ls) n e k =
     let p = line-accepted 2 (faceLine ags f) _ n .0 k in
     let q = after-accepted (readLines (eqLine ags) 3 (p .0) ls) (netCounted ags c) n .0 (p .2) in
     let u = counted-accepted ags c (q .0) n (q .2) in
-    let v = to-equations ags ls (p .0) (q .0) (lines-accepted (eqLine ags) 3 (p .0) ls (q .0) .0 (q .1)) in
-    let w = face-fine ags f (p .0) .0 (p .1) in
-    made ags c h f ls (p .0) (q .0) n (w .0) (v .0) e (w .1) (w .2) (w .3) (v .1) (v .2) (v .3) (u .0) (u .1) (u .2)
+    let v = net-lines ags f ls (q .0) .0 (p .0, p .1, lines-accepted (eqLine ags) 3 (p .0) ls (q .0) .0 (q .1)) in
+    made ags c h f ls (q .0) n e v (u .0) (u .1) (u .2)
 
 to-printed : (ags : List Agent) (ls : List Line) (n : Net) → netOfLines ags ls ≡ accepted n → (ls ≡ linesOf n) × GoodNet ags n
 unfolding netOfLines
@@ -261,10 +289,6 @@ from-printed ags n g =
         ),
       ),
     )
-
-lines-map : (es : List Equation) → map endedLine (map writeEquation es) ≡ map lineFor es
-lines-map [] = refl
-lines-map (e ∷ es) = rw (lines-map es)
 
 writtenLines : Net → List (List ℕ)
 writtenLines n = headOf n ∷ writeFace (n .face) ∷ map writeEquation (n .equations)

@@ -3,15 +3,13 @@ use Prim.Native.Nat.{ℕ}
 use mathlib.Core.Path.{_≡_, refl}
 use mathlib.Core.Bool.{Bool, true, false}
 use mathlib.Core.Logic.{_↔_, _⊎_, inl, inr}
-use mathlib.Core.List.{List, _∷_}
+use mathlib.Core.List.{List}
 use native.Mathlib.Omega.{arith}
-use Rattle.texts.specs.Bytes.{Line}
-use Rattle.texts.specs.Books.{Agent, Net, wordNet}
-use Rattle.texts.specs.Answers.{fine, OfText, accepted, refused, afterLine}
-use Rattle.texts.specs.RuleText.{Counts, headerLine}
-use Rattle.texts.specs.NetText.{faceAndEqs, netOfLines, readNet, netRead}
+use Rattle.texts.specs.Books.{Agent, Net}
+use Rattle.texts.specs.Answers.{OfText, accepted, refused}
+use Rattle.texts.specs.NetText.{readNet, netRead}
 use Rattle.texts.specs.Proofs.Tools.{never, never′}
-use Rattle.texts.specs.Proofs.NetExact.{net-refused}
+use Rattle.texts.specs.Proofs.NetRefusals.{net-refused}
 use Rattle.texts.specs.Refused.{NetRefused}
 
 refused-eq : {A : Type 0} {m n i j : ℕ} → _≡_ {A = OfText A} (refused m i) (refused n j) → (n ≡ m) × (j ≡ i)
@@ -36,8 +34,3 @@ pub net-read-accepted : (s : Bool) (ags : List Agent) (text : List ℕ) (m : Net
 unfolding netRead
 net-read-accepted false ags text m = (λ h. absurd (not-accepted h), λ p. never (p .0))
 net-read-accepted true ags text m = (λ h. (refl, h), λ p. p .1)
-
--- The header's counts are only compared.
-pub net-header : (ags : List Agent) (l : Line) (ls : List Line) (c : Counts) → headerLine wordNet l ≡ fine c → netOfLines ags (l ∷ ls) ≡ faceAndEqs ags c ls
-unfolding netOfLines afterLine
-net-header ags l ls c e = rw e

@@ -4,12 +4,12 @@ use mathlib.Core.Path.{_≡_, refl}
 use mathlib.Core.Bool.{false}
 use mathlib.Core.List.{List, [], _∷_, _++_}
 use borrow.Author.Tests.{eqb-true, not-false}
-use Rattle.texts.specs.Bytes.{Word, Line, any, times, In}
+use Rattle.texts.specs.Bytes.{Word, any, times, In}
 use Rattle.texts.specs.Terms.{Term, Node, nodes}
-use Rattle.texts.specs.Books.{Agent, Equation, Net, takes, namesOf, sides, netTerms, wordNet}
-use Rattle.texts.specs.Answers.{fine, accepted, afterLine}
-use Rattle.texts.specs.RuleText.{Counts, headerLine, wrongArgs}
-use Rattle.texts.specs.NetText.{netFault7, faceNet, moreNet, loose, faceAndEqs, netOfLines, readNet}
+use Rattle.texts.specs.Books.{Agent, Equation, Net, takes, namesOf, sides, netTerms}
+use Rattle.texts.specs.Answers.{accepted}
+use Rattle.texts.specs.RuleText.{wrongArgs}
+use Rattle.texts.specs.NetText.{netFault7, faceNet, moreNet, loose, readNet}
 use Rattle.texts.specs.Proofs.Tools.{any-false, any-append, noneOf}
 use Rattle.texts.specs.Proofs.NetMeans.{nodes-append, net-accepted}
 use Rattle.texts.specs.Good.{GoodEquations, GoodNet, termsIn}
@@ -45,9 +45,3 @@ net-sound ags n g = record {
 -- An accepted text means a sound net.
 pub net-accepted-sound : (ags : List Agent) (text : List ℕ) (n : Net) → readNet ags text ≡ accepted n → SoundNet ags n
 net-accepted-sound ags text n h = net-sound ags n (net-accepted ags text n .0 h .1)
-
--- Header counts are only compared: they reach nothing but the last step of `faceAndEqs`.
-pub net-header-compared : (ags : List Agent) (l : Line) (ls : List Line) (c : Counts) → headerLine wordNet l ≡ fine c
-    → netOfLines ags (l ∷ ls) ≡ faceAndEqs ags c ls
-unfolding netOfLines afterLine
-net-header-compared ags l ls c e = rw e

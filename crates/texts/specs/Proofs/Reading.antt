@@ -7,8 +7,8 @@ use native.Mathlib.Omega.{arith}
 use lib.ListN.{length}
 use Rattle.texts.specs.Bytes.{Line}
 use Rattle.texts.specs.Answers.{OfLine, fine, fault, OfText, accepted, refused, readLines, after, afterLine}
-use Rattle.texts.specs.Refused.{Stops}
-use Rattle.texts.specs.Tests.{Reads}
+use Rattle.texts.specs.Proofs.Stops.{Stops}
+use Rattle.texts.specs.Proofs.LineTests.{Reads}
 
 module _ {S : Type 0} (step : S → Line → OfLine S) where
   wrong : {B : Type 0} {n k : ℕ} {s : S} → refused n k ≡ accepted s → B

@@ -1,5 +1,5 @@
--- Rule texts are refused exactly by document 01's order: the least number whose condition holds of the earliest bad line.
-use Prim.Native.Nat.{ℕ}
+-- The reader of rule texts stops at the earliest bad line, by the least number whose test holds of it.
+use Prim.Native.Nat.{ℕ, _<_, _≤_}
 use mathlib.Core.Path.{_≡_, refl, sym, _∙_}
 use mathlib.Core.Bool.{Bool, true, false, cond, not, _&&_}
 use mathlib.Core.Logic.{_↔_, _⊎_, inl, inr, ⊎-elim}
@@ -10,15 +10,15 @@ use lib.ListN.{length}
 use lib.Dec.{ltb, eqb}
 use borrow.Author.Tests.{ltb-true, ltb-false, lt-ltb, le-ltb, eqb-true, eq-eqb}
 use Rattle.parts.specs.Limits.{text-max}
-use Rattle.texts.specs.Bytes.{Word, Line, fault2, fields, lines}
+use Rattle.texts.specs.Bytes.{Word, Line, fault2, fields}
 use Rattle.texts.specs.Books.{Book, Record, add, noBook, wordRules}
 use Rattle.texts.specs.Answers.{fine, fault, OfText, accepted, refused, absent, holds, _>>=_, need, readLines, after}
-use Rattle.texts.specs.RuleText.{Counts, headerOf, Shape, recordOf, fault5, fault6, fault7, fault8, fault9, fault10, headerLine, judged, ruleLine, shape, meant, fault3, fault4, counted, rulesOfLines, readRules}
+use Rattle.texts.specs.RuleText.{Counts, headerOf, Shape, recordOf, fault5, fault6, fault7, fault8, fault9, fault10, headerLine, judged, ruleLine, shape, meant, fault3, fault4, counted, rulesOfLines}
 use Rattle.texts.specs.Proofs.Tools.{never, both, pair}
 use Rattle.texts.specs.Proofs.Reading.{lines-accepted, lines-refused, After, before, behind, after-refused, AfterLine, here, later, line-refused}
 use Rattle.texts.specs.Proofs.Firsts.{Agrees, agrees-fine, agrees-skip, agrees-refuse, agrees-none, agrees-some, agrees-first}
-use Rattle.texts.specs.Refused.{First, RuleLinesRefused, noLine, badHeader, badLine, badCount, RulesRefused, tooLong, inLines}
-use Rattle.texts.specs.Tests.{ruleTests, headerTests, Counted}
+use Rattle.texts.specs.Proofs.Stops.{First, RuleLinesRefused, noLine, badHeader, badLine, badCount}
+use Rattle.texts.specs.Proofs.LineTests.{ruleTests, headerTests, Counted}
 
 -- A line.
 judged-agrees : (b : Book) (r : Record) → Agrees 5 (judged b r) (fault5 b r ∷ fault6 b r ∷ fault7 b r ∷ fault8 b r ∷ fault9 b r ∷ fault10 b r ∷ [])
@@ -132,15 +132,23 @@ from-lines ls n j (badCount h rest e c k b r u x y) =
     (after-refused (readLines ruleLine 2 noBook rest) (counted c) n j .1 (behind b (lines-accepted ruleLine 2 noBook rest b .1 r)
     (counts-exact (c .upper) (c .lower) (length (b .agents)) (length (b .rules)) n j (accepted b) .1 (inr (u, x, y)))))))
 
--- A rule text is refused with number n and line j exactly so.
-pub rules-refused : (text : List ℕ) (n j : ℕ) → (readRules text ≡ refused n j) ↔ RulesRefused text n j
-unfolding readRules
-rules-refused text n j = (to (ltb text-max (length text)) refl, from)
-  where
-    to : (t : Bool) → ltb text-max (length text) ≡ t → cond t (refused 1 0) (rulesOfLines (lines text)) ≡ refused n j → RulesRefused text n j
-    to true e h = let x : 1 ≡ n = cc in let y : 0 ≡ j = cc in tooLong (ltb-true text-max (length text) e) (sym x) (sym y)
-    to false e h = inLines (ltb-false text-max (length text) e) (to-lines (lines text) n j h)
+-- The lines of a rule text are refused exactly so.
+pub rule-lines-refused : (ls : List Line) (n j : ℕ) → (rulesOfLines ls ≡ refused n j) ↔ RuleLinesRefused ls n j
+rule-lines-refused ls n j = (to-lines ls n j, from-lines ls n j)
 
-    from : RulesRefused text n j → cond (ltb text-max (length text)) (refused 1 0) (rulesOfLines (lines text)) ≡ refused n j
-    from (tooLong e x y) = rw (lt-ltb text-max (length text) e, x, y)
-    from (inLines e r) = rw (le-ltb text-max (length text) e) (from-lines (lines text) n j r)
+-- Number 1 is given before the lines are looked at.
+pub length-exact : {A : Type 0} (text : List ℕ) (n j : ℕ) (r : OfText A)
+    → (cond (ltb text-max (length text)) (refused 1 0) r ≡ refused n j)
+    ↔ (((text-max < length text) × (n ≡ 1) × (j ≡ 0)) ⊎ ((length text ≤ text-max) × (r ≡ refused n j)))
+length-exact {A} text n j r = (to (ltb text-max (length text)) refl, λ p. ⊎-elim long short p)
+  where
+    to : (t : Bool) → ltb text-max (length text) ≡ t → cond t (refused 1 0) r ≡ refused n j
+        → ((text-max < length text) × (n ≡ 1) × (j ≡ 0)) ⊎ ((length text ≤ text-max) × (r ≡ refused n j))
+    to true e h = let x : 1 ≡ n = cc in let y : 0 ≡ j = cc in inl (ltb-true text-max (length text) e, sym x, sym y)
+    to false e h = inr (ltb-false text-max (length text) e, h)
+
+    long : (text-max < length text) × (n ≡ 1) × (j ≡ 0) → cond (ltb text-max (length text)) (refused 1 0) r ≡ refused n j
+    long (e, x, y) = rw (lt-ltb text-max (length text) e, x, y)
+
+    short : (length text ≤ text-max) × (r ≡ refused n j) → cond (ltb text-max (length text)) (refused 1 0) r ≡ refused n j
+    short (e, h) = rw (le-ltb text-max (length text) e) h

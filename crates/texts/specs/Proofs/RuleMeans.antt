@@ -14,12 +14,12 @@ use Rattle.texts.specs.Terms.{spell, symbol}
 use Rattle.texts.specs.Books.{Agent, Rule, Book, Record, isAgent, isRule, recordsOf, writeRecord, writeAgent, writeRule, writeHeader, add, noBook, printBook, sides, lefts, rights, wordRules, wordAgent, wordRule}
 use Rattle.texts.specs.Answers.{fine, accepted, refused, need, refuse, readLines}
 use Rattle.texts.specs.RuleText.{Counts, headerLine, ruleless, shapeOf, recordOf, tooLong, bigRecord, bigBook, fault5, fault6, fault7, fault8, fault9, fault10, shape, judged, ruleLine, counted, rulesOfLines, readRules}
-use Rattle.texts.specs.Proofs.Tools.{both, pair, neither}
-use Rattle.texts.specs.Proofs.Splitting.{free, endedLine, bytesOf, endsOf, lines-text, text-lines, fields-line, line-fields}
+use Rattle.texts.specs.Proofs.Tools.{both, pair, neither, all-append, cons-eq}
+use Rattle.texts.specs.Proofs.Splitting.{free, endedLine, bytesOf, endsOf, lines-text, text-lines, fields-line, line-fields, decimal-tabs}
 use Rattle.texts.specs.Proofs.Plain.{inField, Plain, Plains, word-plain, symbol-plain, spells-plain, decimal-plain, line-tabs, line-bytes, line-newlines}
 use Rattle.texts.specs.Proofs.Means.{refuse-fine, need-fine, line-ended, even-sides, even-map, some-plain, two, header-fine}
 use Rattle.texts.specs.Proofs.Reading.{lines-accepted, after-accepted, line-accepted}
-use Rattle.texts.specs.Tests.{Reads}
+use Rattle.texts.specs.Proofs.LineTests.{Reads}
 use Rattle.texts.specs.Good.{Spelt, Placed, Good, GoodFrom, GoodBook}
 use Rattle.texts.specs.Conditions.{shapeFields, Fits, shapeFor}
 use Rattle.texts.specs.Proofs.Shapes.{to-shape, from-shape, to-record, from-record}
@@ -55,7 +55,7 @@ unfolding writeRecord writeAgent writeRule recordWord recordRest
 write-line (isAgent a) = refl
 write-line (isRule r) = refl
 
-shape-line : (r : Record) → shapeFields (shapeFor r) ≡ recordWord r ∷ recordRest r
+pub shape-line : (r : Record) → shapeFields (shapeFor r) ≡ recordWord r ∷ recordRest r
 unfolding shapeFields shapeFor recordWord recordRest lefts rights
 shape-line (isAgent a) = refl
 shape-line (isRule r) = refl
@@ -70,10 +70,19 @@ unfolding recordRest Spelt
 rest-of b (isAgent a) s h = two (a .symbol) (decimal (a .arity)) (symbol-plain (a .symbol) s) (decimal-plain (a .arity) (omega (arith, small-arity b a h)))
 rest-of b (isRule r) s h = spells-plain (lefts r ++ rights r) s
 
-fields-record : (b : Book) (r : Record) → Good b r → fields (writeRecord r) ≡ shapeFields (shapeFor r)
-fields-record b r g =
-    rw (write-line r, shape-line r)
-    (fields-line (recordWord r) (recordRest r) (line-tabs _ (some-plain _ _ (word-of r) (rest-of b r (g .spelt) (g .no5)))))
+-- A well-spelt record is written in its fields, whatever its arity.
+tabs-of : (r : Record) → Spelt r → all (all (free 9)) (recordWord r ∷ recordRest r) ≡ true
+unfolding recordWord recordRest Spelt all
+tabs-of (isAgent a) s =
+    all-append (all (free 9)) (wordAgent ∷ a .symbol ∷ []) (decimal (a .arity) ∷ [])
+    (line-tabs (wordAgent ∷ a .symbol ∷ []) (two wordAgent (a .symbol) (words-plain .0) (symbol-plain (a .symbol) s)))
+    (pair (all (free 9) (decimal (a .arity))) true (decimal-tabs (a .arity)) refl)
+tabs-of (isRule r) s =
+    let fs : List Word = map spell (lefts r ++ rights r) in
+    line-tabs (wordRule ∷ fs) (some-plain wordRule fs (words-plain .1) (spells-plain (lefts r ++ rights r) s))
+
+pub fields-spelt : (r : Record) → Spelt r → fields (writeRecord r) ≡ shapeFields (shapeFor r)
+fields-spelt r s = rw (write-line r, shape-line r) (fields-line (recordWord r) (recordRest r) (tabs-of r s))
 
 bytes-record : (b : Book) (r : Record) → Good b r → fault2 (endedLine (writeRecord r)) ≡ false
 bytes-record b r g = rw (write-line r) (line-bytes (recordWord r) (recordRest r) (word-of r) (rest-of b r (g .spelt) (g .no5)))
@@ -115,7 +124,7 @@ fits-placed b (isRule r) f = tt
 line-back : (b : Book) (r : Record) → Good b r → ruleLine b (endedLine (writeRecord r)) ≡ fine (add b r)
 unfolding ruleLine shape refuse need endedLine
 line-back b r g =
-    rw (bytes-record b r g, fields-record b r g, from-shape b (shapeFor r) (good-fits b r (g .placed) (g .no5)), from-record r (g .spelt)) (fine-judged b r g)
+    rw (bytes-record b r g, fields-spelt r (g .spelt), from-shape b (shapeFor r) (good-fits b r (g .placed) (g .no5)), from-record r (g .spelt)) (fine-judged b r g)
 
 -- A line is fine exactly where it is a written record that may stand next.
 pub rule-line-fine : (b b′ : Book) (l : Line)
@@ -212,7 +221,7 @@ unfolding recordsOf
 records-none rs g = records-all rs noBook g
 
 -- The lines lead to a book exactly where they are its records, and it is good.
-book-lines : (ls : List Line) (b : Book) → (Reads ruleLine noBook ls b) ↔ ((ls ≡ map lineFor (recordsOf b)) × GoodBook b)
+pub book-lines : (ls : List Line) (b : Book) → (Reads ruleLine noBook ls b) ↔ ((ls ≡ map lineFor (recordsOf b)) × GoodBook b)
 unfolding GoodBook
 book-lines ls b = (to, from)
   where
@@ -263,11 +272,11 @@ unfolding endedLine all
 lines-end [] = refl
 lines-end (r ∷ rs) = lines-end rs
 
-lines-map : (rs : List Record) → map endedLine (map writeRecord rs) ≡ map lineFor rs
+pub lines-map : (rs : List Record) → map endedLine (map writeRecord rs) ≡ map lineFor rs
 lines-map [] = refl
 lines-map (r ∷ rs) = rw (lines-map rs)
 
-word-rules : all wordByte wordRules ≡ true
+pub word-rules : all wordByte wordRules ≡ true
 unfolding all wordByte letter digit
 word-rules = refl
 
@@ -293,9 +302,6 @@ counted-accepted c a b h = go (eqb (c .upper) (length (a .agents)) && eqb (c .lo
         let y = eqb-true (c .lower) (length (a .rules)) (p .1) in
         (counts-are c a b x y z, z)
     go false e k = absurd (let z : _≡_ {A = ℕ} 0 1 = cc in omega arith)
-
-cons-eq : {A : Type 0} {x y : A} {xs ys : List A} → x ≡ y → xs ≡ ys → x ∷ xs ≡ y ∷ ys
-cons-eq p q = rw (p, q)
 
 header-newlines : (m n : ℕ) → m < 10000 → n < 10000 → all (free 10) (writeHeader wordRules m n) ≡ true
 unfolding writeHeader

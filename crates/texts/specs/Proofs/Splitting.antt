@@ -8,18 +8,16 @@ use mathlib.Core.Option.{none, some}
 use native.Mathlib.Omega.{arith}
 use lib.ListN.{length}
 use lib.Dec.{eqb, ltb, leb}
-use borrow.Author.Tests.{eqb-true, eqb-false, leb-true, ltb-true, ltb-false, lt-ltb, le-ltb, le-leb, ne-eqb, not-true}
+use borrow.Author.Tests.{eqb-true, eqb-false, leb-true, ltb-true, ltb-false, lt-ltb, le-ltb, le-leb, lt-leb, ne-eqb, not-true}
 use Rattle.texts.specs.Bytes.{Word, Line, all, digit, onLine, lines, onField, fields, textOf, tabbed, lineOf, isNumber, value, numberOf, decimal}
-use Rattle.texts.specs.Proofs.Tools.{never, both}
+use Rattle.texts.specs.Proofs.Tools.{never, both, pick}
+unfoldable pub use Rattle.texts.specs.Bytes.{endedLine}
 
 -- A byte that is none of the text's marks.
 unfoldable pub free : ℕ → ℕ → Bool
 free m b = not (eqb b m)
 
 -- Lines.
-unfoldable pub endedLine : List ℕ → Line
-endedLine s = record { bytes = s; ended = true }
-
 pub lines-cons : (s rest : List ℕ) → all (free 10) s ≡ true → lines (s ++ (10 ∷ rest)) ≡ endedLine s ∷ lines rest
 unfolding lines all free endedLine onLine
 lines-cons [] rest ok = refl
@@ -209,6 +207,43 @@ number-decimal n h = go (ltb n 10) (ltb n 100) (ltb n 1000) refl refl refl
     go false true c p q r = number-2 n (ltb-false n 10 p) (ltb-true n 100 q)
     go false false true p q r = number-3 n (ltb-false n 100 q) (ltb-true n 1000 r)
     go false false false p q r = number-4 n (ltb-false n 1000 r) h
+
+-- A greater number is written with no tab either, but not as a number.
+tab-free : (d : ℕ) (ds : Word) → all (free 9) ds ≡ true → all (free 9) ((48 + d) ∷ ds) ≡ true
+unfolding all free
+tab-free d ds h = rw (ne-eqb (48 + d) 9 (λ q. omega arith)) h
+
+tab-last : (d : ℕ) → all (free 9) ((48 + d) ∷ []) ≡ true
+unfolding all
+tab-last d = tab-free d [] refl
+
+pub decimal-tabs : (n : ℕ) → all (free 9) (decimal n) ≡ true
+unfolding decimal
+decimal-tabs n =
+    pick tabless (ltb n 10) (λ _. tab-last n)
+    λ _. pick tabless (ltb n 100) (λ _. tab-free _ _ (tab-last _))
+    λ _. pick tabless (ltb n 1000) (λ _. tab-free _ _ (tab-free _ _ (tab-last _)))
+    λ _. tab-free _ _ (tab-free _ _ (tab-free _ _ (tab-last _)))
+  where
+    tabless : Word → Type 0
+    tabless w = all (free 9) w ≡ true
+
+pub number-small : (n m : ℕ) → numberOf (decimal n) ≡ some m → n < 10000
+unfolding decimal numberOf isNumber all digit
+number-small n m h = go (ltb n 10000) refl
+  where
+    go : (t : Bool) → ltb n 10000 ≡ t → n < 10000
+    go true e = ltb-true n 10000 e
+    go false e =
+        let k : 10000 ≤ n = ltb-false n 10000 e in
+        let p : numberOf (decimal n) ≡ none = rw (
+          le-ltb n 10 (omega arith),
+          le-ltb n 100 (omega arith),
+          le-ltb n 1000 (omega arith),
+          le-leb 48 (48 + n / 10 / 10 / 10) (omega arith),
+          lt-leb (48 + n / 10 / 10 / 10) 57 (omega arith),
+        ) in
+        absurd (let z : _≡_ {A = ℕ} 0 1 = cc in omega arith)
 
 -- And what is read is written so.
 Written : Word → Type 0

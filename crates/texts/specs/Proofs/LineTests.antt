@@ -1,16 +1,15 @@
--- The conditions of a line, by number; what it is that lines are good; what is compared after all lines.
-use Prim.Native.Nat.{ℕ}
+-- The readers' tests of a line, by number; lines that are read to their end; what is compared after all lines.
 use mathlib.Core.Path.{_≡_}
-use mathlib.Core.Bool.{Bool, true, false, not, _&&_}
-use mathlib.Core.List.{List, [], _∷_, _++_}
+use mathlib.Core.Bool.{Bool, false, not, _&&_}
+use mathlib.Core.List.{List, [], _∷_}
 use mathlib.Core.Option.{Option}
 use lib.ListN.{length}
-use Rattle.texts.specs.Bytes.{Word, Line, any, fault2, fields}
+use Rattle.texts.specs.Bytes.{Word, Line, fault2, fields}
 use Rattle.texts.specs.Terms.{Term}
-use Rattle.texts.specs.Books.{Agent, Book, Net, namesOf, netTerms}
+use Rattle.texts.specs.Books.{Agent, Book, Net}
 use Rattle.texts.specs.Answers.{OfLine, fine, absent, holds, _>>=_}
 use Rattle.texts.specs.RuleText.{Counts, headerOf, termsOf, meant, fault3, fault4, fault5, fault6, fault7, fault8, fault9, fault10}
-use Rattle.texts.specs.NetText.{faceFields, eqFields, netFault5, netFault7, faceNet, moreNet, loose, netLines}
+use Rattle.texts.specs.NetText.{faceFields, eqFields, netFault5, netFault7, faceNet, moreNet}
 
 -- The conditions of a header's line, from number 0 on: a line has no number 0 or 1.
 unfoldable pub headerTests : Word → Line → List Bool
@@ -49,16 +48,3 @@ Counted c b = (c .upper ≡ length (b .agents)) × (c .lower ≡ length (b .rule
 
 unfoldable pub NetCounted : Counts → Net → Type 0
 NetCounted c n = (c .upper ≡ length (n .face)) × (c .lower ≡ length (n .equations))
-
--- The lines before hold no name that does not occur twice, and this one does.
-pub record LooseAt (ags : List Agent) (names : List Word) (tss : List (List Term)) (i : ℕ) : Type 0 where
-  pub good : List (List Term)
-  pub bad : List Term
-  pub rest : List (List Term)
-  pub parts : tss ≡ good ++ (bad ∷ rest)
-  pub none-before : any (λ ts. any (loose names) (namesOf ags ts)) good ≡ false
-  pub loose-here : any (loose names) (namesOf ags bad) ≡ true
-  pub place : i ≡ length good
-
-abbrev pub Loose : List Agent → Net → ℕ → Type 0
-Loose ags n i = LooseAt ags (namesOf ags (netTerms n)) (netLines n) i
