@@ -3,17 +3,14 @@ use mathlib.Core.Path.{sym, subst}
 use mathlib.Core.List.{map}
 use Rattle.calculus.specs.Calculus.{Collect}
 use Rattle.calculus.specs.Calculus as Calculus
-use Rattle.calculus.specs.Order as Order
 use Rattle.answers.specs.Collected.{Collects, numbered, fresh}
 use Rattle.machine.specs.declared.calls.StepAnswer.the-variants as Step
-use Rattle.review.specs.Words.{ℕ, _≤_, _≡_, List, _↔_, length, _≈_, Label, Conf, Book, Net, GoodBook, GoodNet, tableOf, machine, load, St, Table, loaded, Sound, book, meaning, Stop, view, rule-at, under, tableBytes, BothSound, sound-state, stopped, run-told, StepAnswer, RunAnswer}
-use Rattle.review.specs.Promises.{StepCall, RunCall, net-answer}
-use Rattle.review.specs.Picks.{Accepted, Ends, Moves, Agreed, Calls, ComesToEnd}
-use Rattle.review.specs.Rulebook.{Written, EndsWritten, ReadWritten}
+use Rattle.review.specs.Words.{ℕ, _≡_, List, _↔_, length, _≈_, Conf, Book, Net, GoodBook, GoodNet, tableOf, machine, load, St, Table, loaded, Sound, book, meaning, view, rule-at, under, tableBytes, BothSound, sound-state}
+use Rattle.review.specs.Promises.{StepCall, net-answer}
+use Rattle.review.specs.Rulebook.{Written, ReadWritten}
 use Rattle.review.specs.Loads.{LoadedSo}
 use Rattle.review.specs.Demand2.{lent-sound, left-sound, step-read}
-use Rattle.review.specs.Demand3.{any-picks, it-ends, any-run}
-use Rattle.review.specs.Proofs.{Written.to-written, Written.from-written, Written.ends-to, Written.ends-from, Written.read-written, Written.only-table}
+use Rattle.review.specs.Proofs.{Written.to-written, Written.from-written, Written.read-written, Written.only-table}
 use Rattle.review.specs.Proofs.{LoadedSo.net-loaded-so, LoadedSo.only-loaded, LoadedSo.loaded-sound, Collecting.collects-printed, Collecting.collects-go-on, Collecting.collects-one}
 
 -- THE TABLE
@@ -33,27 +30,6 @@ pub step-read-written : (b : Book) → GoodBook b → {w v : List ℕ} {p : ℕ}
     → (c : StepCall w v p Step.Moved v′)
     → ReadWritten b (rule-at (under w) (view v) p) (meaning (sound-state (lent-sound c))) (meaning (sound-state (left-sound c)))
 step-read-written b g e c = read-written b g e (step-read c)
-
-module _ {rules net w v : List ℕ} (a : Accepted rules net w v) {M : List Label} {N : Conf} where
-  -- demand 3's premise is one about what the two texts spell,
-  pub ends-written : Ends a M N ↔ EndsWritten (a .book) (a .spelt) M N
-  ends-written = (ends-to a, ends-from a)
-
-  -- and its statements follow from that.
-  module _ (ends : EndsWritten (a .book) (a .spelt) M N) where
-    pub any-picks-written : {ps v′ : List ℕ} (m : Moves w v ps v′) → Agreed m M N
-    any-picks-written m = any-picks a (ends-from a ends) m
-
-    pub it-ends-written : {f : ℕ → ℕ} {r : ℕ → StepAnswer} (vs : ℕ → List ℕ) → vs 0 ≡ v → Calls w f r vs
-        → ComesToEnd w f vs M N
-    it-ends-written vs e c = it-ends a (ends-from a ends) vs e c
-
-    pub any-run-written : {budget : ℕ} {r : RunAnswer} {v′ : List ℕ} → RunCall w v budget r v′ → (t : Stop) (n : ℕ)
-        → run-told r ≡ stopped t n
-        → (n ≤ Order.interactions M)
-        × ((view v′) .waiting .used ≡ 0
-        → (n ≡ Order.interactions M) × ((h : BothSound w v′) → meaning (sound-state h) ≈ N))
-    any-run-written c t n e = any-run a (ends-from a ends) c t n e
 
 -- THE LOAD
 -- "A loaded net is numbered so from 0, `face` first; its equations wait in text order and the rest is empty."

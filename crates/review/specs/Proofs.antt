@@ -15,6 +15,7 @@ pub mod Runs
 pub mod Shown
 pub mod Sources
 pub mod Spelt
+pub mod Started
 pub mod Steps
 pub mod Told
 pub mod Walking

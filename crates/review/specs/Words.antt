@@ -2,10 +2,10 @@
 pub use Prim.Native.{Nat.ℕ, Nat.zero, Nat.suc, Nat._+_, Nat._*_, Nat._-_, Nat._≤_, Nat._<_, String.String}
 pub use mathlib.Core.{Path._≡_, Logic._↔_, Logic._⊎_, Bool.Bool, Bool.true, Bool.false, Bool.not, Bool._&&_, Option.Option, List.List, List.[], List._∷_, List._++_}
 pub use lib.{ListN.length, ListN.getD, ListN.drop, Seq.sets}
-pub use Rattle.parts.specs.Limits.{budget-max, text-max, rule-equations-max}
+pub use Rattle.parts.specs.Limits.{budget-max, text-max}
 pub use Rattle.calculus.specs.Nets.{_≈_}
 pub use Rattle.calculus.specs.Calculus.{Label, Communication, Interaction, Step}
-pub use Rattle.calculus.specs.Terms.{Conf}
+pub use Rattle.calculus.specs.Terms.{Conf, count}
 pub use Rattle.calculus.specs.Descent.{Steps, Normal}
 pub use Rattle.texts.specs.Bytes.{lines, Line, fault2, fields, Word, In}
 pub use Rattle.texts.specs.Books.{Book, Agent, wordNet, noBook, wordRules, Net, printBook, printNet}
@@ -25,7 +25,7 @@ pub use Rattle.model.specs.Run.{ran}
 pub use Rattle.model.specs.Load.{loaded}
 pub use Rattle.model.specs.Sound.{Means, Sound, meaning, book}
 pub use Rattle.model.specs.Table.{Entry, Table, Found, entry}
-pub use Rattle.model.specs.Walk.{one-use, Stop, ended, paused, noroom, one-made, over, right}
+pub use Rattle.model.specs.Walk.{Stop, ended, paused, noroom, over, right}
 pub use Rattle.table.specs.Layout.{tableBytes, agentsIn, bytesOf}
 pub use Rattle.table.specs.Given.{Given}
 pub use Rattle.table.specs.Put.{no-table}
