@@ -30,15 +30,15 @@ pub record Accepted (rules net w v : List ℕ) : Type 0 where
   pub rules-read : (table : List ℕ) × RulesCall rules table Rules.Accepted w
   pub net-read : (state : List ℕ) × NetCall net w state Nets.Accepted v
 
--- A step from C or from any other net that is C up to names, order and sides.
-abbrev pub UpTo : (Conf → Label → Conf → Type 0) → Conf → Label → Conf → Type 0
-UpTo Rules C l D = (C′ : Conf) × (C ≈ C′) × Rules C′ l D
+-- A step by the rules as they are written, from C or from any other net that is C up to names, order and sides:
+-- "Configurations that differ only on names are considered equivalent" (document 001).
+abbrev pub WrittenStep : Book → Conf → Label → Conf → Type 0
+WrittenStep b C l D = (C′ : Conf) × (C ≈ C′) × Step (Written b) C′ l D
 
--- "Some sequence of Communications and Interactions takes an accepted net to where neither applies": by the rules as they are
--- written, from the net as it is written, with labels M, to N. "Configurations that differ only on names are considered
--- equivalent", so names may change between the steps.
+-- "Some sequence of Communications and Interactions takes an accepted net to where neither applies": by such steps, from the
+-- net as it is written, with labels M, to N.
 pub record Ends (b : Book) (n : Net) (M : List Label) (N : Conf) : Type 0 where
-  pub way : Steps (UpTo (Step (Written b))) (meantNet (b .agents) n) M N
+  pub way : Steps (WrittenStep b) (meantNet (b .agents) n) M N
   pub end : Normal (Step (Written b)) N
 
 -- CALLS ONE AFTER ANOTHER

@@ -8,7 +8,7 @@ use Rattle.calculus.specs.Descent.{Steps, Normal}
 use Rattle.calculus.specs.Nets.{_≈_}
 use Rattle.calculus.specs.Terms.{Conf}
 use Rattle.calculus.specs.Proofs.Compatible.{valid-same}
-use Rattle.calculus.specs.Proofs.UpTo.{to-up, plain, plain-normal}
+use Rattle.calculus.specs.Proofs.UpTo.{UpTo, to-up, plain, plain-normal}
 use Rattle.texts.specs.Books.{Book, Net}
 use Rattle.texts.specs.Coded.{tableOf, machine, load}
 use Rattle.texts.specs.Good.{GoodBook, GoodNet}
@@ -29,7 +29,7 @@ use Rattle.lent.specs.Both.{BothSound, under-is, both-of}
 use Rattle.rules.specs.declared.RulesAnswer.the-variants as Rules
 use Rattle.nets.specs.declared.NetAnswer.the-variants as Nets
 use Rattle.review.specs.Promises.{RulesCall, NetCall}
-use Rattle.review.specs.Picks.{Accepted, UpTo, Ends}
+use Rattle.review.specs.Picks.{Accepted, Ends}
 use Rattle.review.specs.Rulebook.{Written}
 use Rattle.review.specs.Proofs.Spelt.{book-spelt, net-spelt-so}
 use Rattle.review.specs.Proofs.Written.{to-written, from-written}
@@ -56,7 +56,7 @@ module _ (A B : Calculus.Book) (has : (i : ℕ) (R : Calculus.Rule) → A i R �
   step-by (Step.communication c) = Step.communication c
   step-by (Step.interaction {i = i} {r = r} h c) = Step.interaction (has i r h) c
 
-  steps-by : {C D : Conf} {M : List Label} → Steps (UpTo (Step A)) C M D → Steps (UpTo (Step B)) C M D
+  steps-by : {C D : Conf} {M : List Label} → Steps (UpTo A) C M D → Steps (UpTo B) C M D
   steps-by Steps.done = Steps.done
   steps-by (Steps.more (C, e, s) w) = Steps.more (C, e, step-by s) (steps-by w)
 
