@@ -14,3 +14,4 @@ pub mod Order
 pub mod Ended
 pub mod Rules
 pub mod Remarks
+pub mod UpTo

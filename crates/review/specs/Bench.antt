@@ -3,7 +3,7 @@
 use Rattle.review.specs.Words.{ℕ, _≡_, List, bytes, StepAnswer}
 use Rattle.review.specs.Examples.{text, rules, listing-net, Bench, ackermann-rules, ackermann-net}
 use Rattle.review.specs.Picks.{Calls, Premise}
-use Rattle.review.specs.Proofs.{Computed.computed, Computed.ackermann, Made.pick-at, Made.answer-at, Made.state-at, Made.calls-on, Walking.start-sound}
+use Rattle.review.specs.Proofs.{Computed.computed, Computed.ackermann, Made.pick-at, Made.answer-at, Made.state-at, Made.calls-on, Started.start-sound}
 
 -- P1 to P10, to the byte.
 pub the-bench : Bench

@@ -1,18 +1,20 @@
 -- Demand 1: every call gets an answer, each refusal exactly under its condition, and a refused call changes no byte.
 --
--- The theorem for each refusal number of document 01, by the call that gives it:
+-- Where each refusal number of document 01 is told. A number of a text is given by the constructor named here, on the page
+-- crates/texts/specs/Refused.antt: `rules-refused` and `net-refused` (Demand1Texts) say that it is given so and not else. The
+-- other numbers have their theorems below.
 --
---    1  text longer than the size                           rules-1    net-1
---    2  byte not allowed, or last line unended              rules-2    net-2
---    3  wrong, missing or misplaced record; ..              rules-3    net-3
---    4  identifier or term misspelt, ..                     rules-4    net-4
---    5  .. passes a size above                              rules-5    net-5
---    6  symbol declared twice                               rules-6
---    7  argument count differs from arity, or ..            rules-7    net-7
---    8  a left field ..; a name the wrong number of times   rules-8    net-8
---    9  the pair already has a rule                         rules-9
---   10  a symbol's rule with itself is one-sided            rules-10
---   11  a header count differs from the records found       rules-11   net-11
+--    1  text longer than the size                           too-long
+--    2  byte not allowed, or last line unended              two
+--    3  wrong, missing or misplaced record; ..              three, absent, absent-face
+--    4  identifier or term misspelt, ..                     four
+--    5  .. passes a size above                              five
+--    6  symbol declared twice                               six
+--    7  argument count differs from arity, or ..            seven
+--    8  a left field ..; a name the wrong number of times   eight, loose-name
+--    9  the pair already has a rule                         nine
+--   10  a symbol's rule with itself is one-sided            ten
+--   11  a header count differs from the records found       miscounted
 --   12  pick at or past the number waiting                  step-12
 --   13  no room                                             step-13
 --   14  answer asked for while equations wait               answer-14
@@ -20,25 +22,13 @@
 --   16  rule table or state lent is not sound               step-16    run-16    answer-16    net-16 (table)
 --   17  budget above the size                               run-17
 --
--- `rules-N` are stated in Demand1Rules and `net-N` in Demand1Nets, and hold by `rule-refusals` and `net-refusals` below; the
--- others stand here. No other number is given: rules-no-other, net-no-other; the answers of the other calls have no other.
 -- That each call has an answer, and only one, stands in Answered.
 use Rattle.machine.specs.declared.calls.StepAnswer.the-variants as Step
 use Rattle.machine.specs.declared.calls.RunAnswer.the-variants as Run
 use Rattle.answer.specs.declared.EndAnswer.the-variants as End
 use Rattle.review.specs.Words.{ℕ, _≤_, _<_, _≡_, List, _↔_, length, budget-max, picked, NoRoom, view, under, BothSound}
 use Rattle.review.specs.Promises.{StateArray, StepCall, RunCall, AnswerCall, net-lines}
-use Rattle.review.specs.Proofs.{RuleTexts.refusals as rules-refused, NetTexts.refusals as net-refused}
 use Rattle.review.specs.Proofs.Calls.{step-unsound, step-no-pick, step-no-room, run-unsound, run-too-much, answer-unsound, answer-waits, answer-long}
-use Rattle.review.specs.Demand1Rules.{RuleRefusals}
-use Rattle.review.specs.Demand1Nets.{NetRefusals}
-
--- READ_RULES and READ_NET. What Demand1Rules and Demand1Nets state holds of whatever is lent.
-pub rule-refusals : (text table u : List ℕ) (j : ℕ) → RuleRefusals text table u j
-rule-refusals = rules-refused
-
-pub net-refusals : (text w : List ℕ) {v v′ : List ℕ} → StateArray v → StateArray v′ → (j : ℕ) → NetRefusals text w v v′ j
-net-refusals = net-refused
 
 -- STEP. "16 first, then [..] 12, [..] 13". "A refused call changes no byte it was lent." (`step-made` in Demand2 says when a
 -- step is made, and what it is.)

@@ -19,7 +19,6 @@ use Rattle.review.specs.Rulebook.{Written, ReadWritten}
 use Rattle.review.specs.Loads.{LoadedSo}
 use Rattle.review.specs.Proofs.{Spelt.book-spelt, Spelt.spelt-book, Spelt.bytes-under, Spelt.bytes-agents, Spelt.bytes-code, Spelt.net-spelt-so, Spelt.spelt-net, Spelt.load-exactly, Spelt.load-means-net, Written.table-exactly}
 use Rattle.review.specs.Proofs.{Calls.step-made as made-exactly, Steps.step-sound-after, Reading.step-reads, OneRun.run-exactly-steps, OneRun.run-leaves-sound, Reads.answer-printed, Reads.printed-answer, Collecting.collects-printed, Collecting.collects-go-on, Collecting.collects-one}
-pub use Rattle.review.specs.Proofs.{Made.run-steps as run-is-steps, Reads.answer-printed as net-printed}
 
 -- THE RULE TEXT
 -- "An accepted text means exactly what it spells": a rule text is accepted exactly if it is a good book as it is printed,

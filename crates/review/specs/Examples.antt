@@ -23,9 +23,9 @@ listing-net = "net\t1\t1\nface\tr\neq\tadd(r,S(Z))\tS(Z)\n"
 pub record Comes (net : String) (made loads steps cells : ℕ) (output : String) : Type 0 where
   pub printed : evaluated (text rules) (bytes net) ≡ bytes output
   pub premise : Premise (text rules) (bytes net) made
-  pub loaded : used ((view (premise .state)) .symbols) ≡ loads
+  pub cells-loaded : used ((view (premise .state)) .symbols) ≡ loads
   pub by-head : premise .picks ≡ first-picks (λ i. 0) steps
-  pub left : used ((view (premise .last)) .symbols) ≡ cells
+  pub cells-at-end : used ((view (premise .last)) .symbols) ≡ cells
 
 -- The table.
 pub record Bench : Type 0 where

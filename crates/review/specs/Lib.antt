@@ -1,13 +1,10 @@
 pub mod Answered
 pub mod Bench
 pub mod Demand1
-pub mod Demand1Nets
-pub mod Demand1Rules
 pub mod Demand1Texts
 pub mod Demand2
 pub mod Demand3
 pub mod Examples
-pub mod Faults
 pub mod Loads
 pub mod Picks
 pub mod Program

@@ -2,28 +2,24 @@
 pub use Prim.Native.{Nat.ℕ, Nat.zero, Nat.suc, Nat._+_, Nat._*_, Nat._-_, Nat._≤_, Nat._<_, String.String}
 pub use mathlib.Core.{Path._≡_, Logic._↔_, Logic._⊎_, Bool.Bool, Bool.true, Bool.false, Bool.not, Bool._&&_, Option.Option, List.List, List.[], List._∷_, List._++_}
 pub use lib.{ListN.length, ListN.getD, ListN.drop, Seq.sets}
-pub use Rattle.parts.specs.Limits.{budget-max, text-max, rule-equations-max}
+pub use Rattle.parts.specs.Limits.{budget-max, text-max}
 pub use Rattle.calculus.specs.Nets.{_≈_}
 pub use Rattle.calculus.specs.Calculus.{Label, Communication, Interaction, Step}
-pub use Rattle.calculus.specs.Terms.{Conf}
+pub use Rattle.calculus.specs.Terms.{Conf, count}
 pub use Rattle.calculus.specs.Descent.{Steps, Normal}
-pub use Rattle.texts.specs.Bytes.{bytes, lines, Line, fault2, fields, Word, In}
-pub use Rattle.texts.specs.Books.{Book, Agent, wordNet, noBook, wordRules, Net, printBook, printNet}
-pub use Rattle.texts.specs.Answers.{accepted, fine, absent, holds, _>>=_, refused, readLines}
-pub use Rattle.texts.specs.RuleText.{Counts, headerOf, headerLine, termsOf, ruleLine, meant, fault3, fault4, fault5, fault6, fault7, fault8, fault9, fault10}
-pub use Rattle.texts.specs.NetText.{netFault5, netFault7, faceAndEqs, netOfLines, faceFields, eqFields, faceNet, moreNet, faceLine, eqLine}
-pub use Rattle.texts.specs.Tests.{Counted, headerTests, ruleTests, faceTests, eqTests, Reads, Loose, NetCounted}
+pub use Rattle.texts.specs.Bytes.{bytes, Line}
+pub use Rattle.texts.specs.Books.{Book, Net, noBook, wordRules, wordNet, printBook, printNet}
+pub use Rattle.texts.specs.Refused.{Begins, BadLine, records, rulesWritten, RulesRight, RuleWrong, RulesRefused, headed, faced, netWritten, NetRight, NetWrong, NetRefused}
 pub use Rattle.texts.specs.Coded.{tableOf, machine, load}
 pub use Rattle.texts.specs.Meaning.{meantNet}
 pub use Rattle.texts.specs.Good.{GoodBook, GoodNet}
-pub use Rattle.texts.specs.Terms.{Term}
 pub use Rattle.model.specs.Step.{picked, moved, place, taken-out, rule-at}
 pub use Rattle.model.specs.Rows.{NoRoom, Row}
 pub use Rattle.model.specs.State.{St, used, empty}
 pub use Rattle.model.specs.Load.{loaded}
 pub use Rattle.model.specs.Sound.{Sound, meaning, book}
 pub use Rattle.model.specs.Table.{Entry, Table, Found, entry}
-pub use Rattle.model.specs.Walk.{one-use, Stop, ended, paused, noroom, one-made, over, right}
+pub use Rattle.model.specs.Walk.{Stop, ended, paused, noroom, over, right}
 pub use Rattle.table.specs.Layout.{tableBytes, agentsIn, bytesOf}
 pub use Rattle.table.specs.Given.{Given}
 pub use Rattle.table.specs.Put.{no-table}

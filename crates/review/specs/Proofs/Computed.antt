@@ -32,7 +32,7 @@ comes : {net : String} {i l s c : ℕ} {o : String} → evaluated (text rules) (
     → came 100 (text rules) (bytes net) ≡ came-of i l s c 0 → ltb s 100 ≡ true → Comes net i l s c o
 comes {net} {i} {l} {s} {c} p q o =
     let k = run-shows (text rules) (bytes net) 100 (came-of i l s c 0) q refl in
-    record { printed = p; premise = k .premise; loaded = k .loaded; by-head = k .by-head (ltb-true s 100 o); left = k .left }
+    record { printed = p; premise = k .premise; cells-loaded = k .cells-loaded; by-head = k .by-head (ltb-true s 100 o); cells-at-end = k .cells-at-end }
 
 both : Bench × (came 0 (text ackermann-rules) (bytes ackermann-net) ≡ came-of 133 8 0 10 0)
 unfolding text of-net of-texts steps-from came any all keep same among times different indexOf letter digit wordByte allowed onLine lines

@@ -32,7 +32,8 @@ use Rattle.evaluation.specs.Evaluated.{budget}
 use Rattle.review.specs.Picks.{Accepted, first-picks, Premise}
 use Rattle.review.specs.Proofs.Arrays.{array-of, view-of-array}
 use Rattle.review.specs.Proofs.Made.{ByCalls, by-calls}
-use Rattle.review.specs.Proofs.Walking.{start-sound}
+use Rattle.review.specs.Proofs.Spelt.{spelt-book, spelt-net}
+use Rattle.review.specs.Proofs.Started.{ends-written, start-sound}
 use Rattle.calculus.specs.Calculus.{Label, Step, Valid}
 use Rattle.calculus.specs.Descent.{Ends, Normal}
 use Rattle.calculus.specs.Nets.{_≈_}
@@ -150,9 +151,9 @@ came fuel rules net = of-texts (came-of 0 0 0 0 1) (came-by fuel) (readRules rul
 -- The premise, and its figures.
 pub record Shown (rules net : List ℕ) (c : Came) (fuel : ℕ) : Type 0 where
   pub premise : Premise rules net (c .made)
-  pub loaded : used ((view (premise .state)) .symbols) ≡ c .loads
+  pub cells-loaded : used ((view (premise .state)) .symbols) ≡ c .loads
   pub by-head : c .steps < fuel → premise .picks ≡ first-picks (λ i. 0) (c .steps)
-  pub left : used ((view (premise .last)) .symbols) ≡ c .cells
+  pub cells-at-end : used ((view (premise .last)) .symbols) ≡ c .cells
 
 -- Of two accepted texts.
 module _ (rules net : List ℕ) (b : Book) (n : Net) (p : readRules rules ≡ accepted b)
@@ -175,17 +176,22 @@ module _ (rules net : List ℕ) (b : Book) (n : Net) (p : readRules rules ≡ ac
   ran-so : Stopped (machine (tableOf b)) budget start run-end
   ran-so = run-is-right table-sound budget (load-sound table-sound reads)
 
+  loads : view (array-of start) ≡ start
+  loads = view-of-array start ((load-sound table-sound reads) .sizes)
+
   abbrev texts : Accepted rules net (tableBytes b) (array-of start)
   texts =
+      let r = Texts.rule-text-accepted rules b .0 p in
+      let k = Texts.net-text-accepted (b .agents) net n .0 q in
       record {
         book = b;
         spelt = n;
-        good-book = good-book;
-        good-net = Texts.net-text-accepted (b .agents) net n .0 q .1;
-        rules-is = Texts.rule-text-accepted rules b .0 p .0;
-        net-is = Texts.net-text-accepted (b .agents) net n .0 q .0;
-        table = refl;
-        state = view-of-array start ((load-sound table-sound reads) .sizes);
+        good-book = r .1;
+        good-net = k .1;
+        rules-is = r .0;
+        net-is = k .0;
+        rules-read = ([], spelt-book rules [] (tableBytes b) b (r .0) (r .1) (r .2) refl);
+        net-read = ([], spelt-net net b (r .1) [] (array-of start) n (k .0) (k .1) (k .2) loads);
       }
 
   same-table : under (tableBytes b) ≡ machine (tableOf b)
@@ -195,7 +201,7 @@ module _ (rules net : List ℕ) (b : Book) (n : Net) (p : readRules rules ≡ ac
   ran-under = subst (λ T. Stopped T budget start run-end) (sym same-table) ran-so
 
   calls : ByCalls (tableBytes b) (array-of start) (ran-under .walk)
-  calls = by-calls (ran-under .walk) (ran-under .at-head) (array-of start) (texts .state) (start-sound texts)
+  calls = by-calls (ran-under .walk) (ran-under .at-head) (array-of start) loads (start-sound texts)
 
   premise-of : run-end .state .waiting .used ≡ 0 → Premise rules net (run-end .made)
   premise-of w =
@@ -206,11 +212,12 @@ module _ (rules net : List ℕ) (b : Book) (n : Net) (p : readRules rules ≡ ac
         accepted = texts;
         labels = z .labels;
         end = z .end;
-        ends = record { way = z .ends .way; end = z .ends .end };
+        ends = ends-written b good-book n (z .ends);
         as-many = z .as-many ∙ sym (ran-so .made);
         picks = first-picks (λ i. 0) (steps-in (ran-under .walk));
+        fired = calls .fired;
         last = calls .last;
-        moves = calls .moves;
+        moves = calls .picks;
         nothing-waits = ap (λ s. s .waiting .used) (calls .there) ∙ w;
       }
 
@@ -219,12 +226,12 @@ module _ (rules net : List ℕ) (b : Book) (n : Net) (p : readRules rules ≡ ac
   came-shown fuel w =
       record {
         premise = premise-of w;
-        loaded = ap (λ s. used (s .symbols)) (texts .state);
+        cells-loaded = ap (λ s. used (s .symbols)) loads;
         by-head = λ o.
             ap
             (first-picks (λ i. 0))
             (counted (ran-under .walk) (ran-under .at-head) w fuel (steps-from fuel (machine (tableOf b)) start) (rw same-table) o);
-        left = ap (λ s. used (s .symbols)) (calls .there);
+        cells-at-end = ap (λ s. used (s .symbols)) (calls .there);
       }
 
 pub run-shows : (rules net : List ℕ) (fuel : ℕ) (c : Came) → came fuel rules net ≡ c → c .waits ≡ 0 → Shown rules net c fuel

@@ -6,9 +6,7 @@ use mathlib.Core.Logic.{_↔_, inl}
 use native.Mathlib.Omega.{arith}
 use lib.ListN.{length, getD, length-append, length-map}
 use lib.Seq.{ext-getD}
-use Rattle.calculus.specs.Calculus.{Label, Step}
 use Rattle.calculus.specs.Calculus as Calculus
-use Rattle.calculus.specs.Descent.{Steps, Normal}
 use Rattle.calculus.specs.Terms.{Conf}
 use Rattle.model.specs.Table.{Table, no-entry, entry}
 use Rattle.model.specs.Sound.{Means, book}
@@ -19,9 +17,8 @@ use Rattle.texts.specs.Coded.{template, tableOf, machine}
 use Rattle.texts.specs.Meaning.{meantRule}
 use Rattle.texts.specs.Good.{GoodBook}
 use Rattle.texts.specs.Main as Texts
-use Rattle.review.specs.Picks.{Accepted, Ends}
 use Rattle.review.specs.Proofs.Sources.{one-entry}
-use Rattle.review.specs.Rulebook.{Written, written, EndsWritten}
+use Rattle.review.specs.Rulebook.{Written}
 
 -- A place in a list of rules.
 record Placed (l : List Rule) (i : ℕ) : Type 0 where
@@ -99,37 +96,6 @@ module _ (b : Book) (g : GoodBook b) where
       (λ j. book (machine (tableOf b)) j (meantRule (b .agents) (w .rule)))
       (w .number)
       (meant-at (w .before) (w .rule) (w .after) (w .rules)))
-
--- Steps by the rules of one book are steps by those of another that has them all.
-module _ (A B : Calculus.Book) (more : (i : ℕ) (R : Calculus.Rule) → A i R → B i R) where
-  step-by : {C D : Conf} {l : Label} → Step A C l D → Step B C l D
-  step-by (Step.communication c) = Step.communication c
-  step-by (Step.interaction {i = i} {r = r} h c) = Step.interaction (more i r h) c
-
-  steps-by : {C D : Conf} {M : List Label} → Steps (Step A) C M D → Steps (Step B) C M D
-  steps-by Steps.done = Steps.done
-  steps-by (Steps.more s w) = Steps.more (step-by s) (steps-by w)
-
-  normal-by : {C : Conf} → Normal (Step B) C → Normal (Step A) C
-  normal-by n l D s = n l D (step-by s)
-
-abbrev table-book : Book → Calculus.Book
-table-book b = book (machine (tableOf b))
-
-module _ {rules net w v : List ℕ} (a : Accepted rules net w v) {M : List Label} {N : Conf} where
-  pub ends-to : Ends a M N → EndsWritten (a .book) (a .spelt) M N
-  ends-to e =
-      record {
-        way = steps-by (table-book (a .book)) (written (a .book)) (to-written (a .book) (a .good-book)) (e .way);
-        end = normal-by (written (a .book)) (table-book (a .book)) (from-written (a .book) (a .good-book)) (e .end);
-      }
-
-  pub ends-from : EndsWritten (a .book) (a .spelt) M N → Ends a M N
-  ends-from e =
-      record {
-        way = steps-by (written (a .book)) (table-book (a .book)) (from-written (a .book) (a .good-book)) (e .way);
-        end = normal-by (table-book (a .book)) (written (a .book)) (to-written (a .book) (a .good-book)) (e .end);
-      }
 
 -- Each place of a book has a rule, and no rule stands further on.
 pub rule-in : (b : Book) (i : ℕ) → i < length (b .rules) → (R : Calculus.Rule) × Written b i R
