@@ -21,19 +21,65 @@ import sys
 ROOT = os.path.join(os.path.dirname(os.path.abspath(__file__)), "..", "crates")
 # Every page of crates/review/specs that has statements, by the question that it answers.
 QUESTIONS = {
-    "1 (header, refusals)": ["Demand1", "Demand1Rules", "Demand1Nets", "Demand1Texts", "Answered"],
-    "2 (texts, step, answer)": ["Demand2", "Program", "Exact"],
+    "1 (header, refusals)": ["Demand1", "Demand1Texts", "Answered"],
+    "2 (texts, step, answer)": ["Demand2", "Program"],
     "3 (order)": ["Demand3", "Bench"],
 }
 # A definition that a reader need not look at, and the theorems that determine it.
 HIDDEN = {
-    "texts/Proofs/Reader.termOf": ["texts/Main.field-means"],
-    "texts/Bytes.numberOf": ["texts/Main.number-means"],
+    # what the calls promise, and so how their answers are come to
+    "review/Promises.RulesCall": ["review/Demand1Texts.rules-refused", "review/Demand2.rules-spelt"],
+    "review/Promises.NetCall": ["review/Demand1Texts.net-refused", "review/Demand1Texts.net-16", "review/Demand2.net-spelt"],
+    "review/Promises.StepCall": [
+        "review/Demand1.step-16",
+        "review/Demand1.step-12",
+        "review/Demand1.step-13",
+        "review/Demand2.step-made",
+    ],
+    "review/Promises.RunCall": ["review/Demand1.run-16", "review/Demand1.run-17", "review/Demand2.run-is"],
+    "review/Promises.AnswerCall": [
+        "review/Demand1.answer-16",
+        "review/Demand1.answer-14",
+        "review/Demand1.answer-15",
+        "review/Demand2.answer-read",
+    ],
+    "review/Promises.EmptyState": ["review/Answered.empty-state-is"],
+    "review/Promises.EmptyTable": ["review/Answered.empty-table-is"],
+    "evaluation/Evaluated.evaluated": [
+        "review/Program.rules-refused-printed",
+        "review/Program.net-refused-printed",
+        "review/Program.run-on",
+        "review/Program.paused-printed",
+        "review/Program.noroom-printed",
+        "review/Program.answer-on",
+        "review/Program.end-printed",
+        "review/Program.long-printed",
+    ],
+    # the table of a book, and its bytes
+    "texts/Coded.tableOf": ["review/Demand2.table-exact"],
+    "texts/Coded.machine": ["review/Demand2.table-exact"],
+    "sound/Lent.under": ["review/Demand2.table-under"],
+    "table/Layout.agentsIn": ["review/Demand2.table-agents"],
+    "table/Layout.tableBytes": ["review/Demand2.table-code"],
+    # a net loaded
+    "texts/Coded.load": ["review/Demand2.load-exact"],
+    "model/Load.loaded": ["review/Demand2.load-exact"],
+    # tests of a record
+    "texts/RuleText.fault7": ["texts/Main.number-7"],
+    "texts/RuleText.fault8": ["texts/Main.number-8"],
+    "texts/RuleText.fault10": ["texts/Main.number-10"],
+    "texts/NetText.netFault7": ["texts/Main.net-number-7"],
 }
 # A proof off which statements read something, and the theorem that says that another proof gives the same.
 PROOFS = {"lent/Both.sound-state": ["model/Kept.one-meaning"]}
 WORD = re.compile(r"[^\s(){}\[\];,|]+")
 WORDS_BEFORE = re.compile(r"\s*(?:(?:abbrev|unfoldable|pub|data|record|mutual) )*([^(){}=→]+?)(?: [({].*)? : ")
+
+
+def named_before_colon(line):
+    """The names that a line brings: of a definition, its constructors or its fields."""
+    head = WORDS_BEFORE.match(line + " ")
+    return head.group(1).split() if head else []
 
 
 class Definition:
@@ -45,15 +91,11 @@ class Definition:
         first = self.code[0].strip()
         self.is_public = " pub " in " " + first + " "
         self.is_theorem = not re.match(r"(abbrev|unfoldable|infix|module|mutual)|(pub )?(data|record) ", first)
-        self.name = next(iter(self.brought()), first)
-        self.names = set(self.brought())
-
-    def brought(self):
-        """The names before a colon: of the definition, its constructors or its fields."""
-        for line in self.code[:1] if self.is_theorem else self.code:
-            head = WORDS_BEFORE.match(line + " ")
-            if head:
-                yield from head.group(1).split()
+        is_record = re.match(r"(pub )?record ", first)
+        brought = [name for line in (self.code[:1] if self.is_theorem else self.code) for name in named_before_colon(line)]
+        self.name = brought[0] if brought else first
+        # a field is named after a dot, or inside its own record
+        self.names, self.own = set(brought[:1] if is_record else brought), set(brought)
 
     def statement(self):
         """A theorem's own statement: its first line, and the lines that go on from it."""
@@ -70,7 +112,7 @@ class Definition:
         """The definitions that its words may mean."""
         for line in self.lines():
             for word in WORD.findall(line):
-                if not word.startswith("."):
+                if not word.startswith(".") and word not in self.own:
                     yield from self.page.find(word)
 
 
@@ -201,10 +243,9 @@ def hide(pages):
         for d in named(pages, key):
             hidden[d] = proofs
     for d, proofs in hidden.items():
-        others = {e: p for e, p in hidden.items() if e is not d}
-        rests = reached([e for t in proofs for e in t.uses() if e is not d], others) - {d}
-        for e in rests:
-            if e not in others and e not in proofs and any(u is d for u in e.uses()):
+        rests = reached([e for t in proofs for e in t.uses() if e not in proofs], {**hidden, d: []})
+        for e in rests - {d} - set(proofs) - set(hidden):
+            if any(u is d for u in e.uses()):
                 sys.exit(f"pages.py: {d.page.key}.{d.name} is hidden by what rests on it: {e.page.key}.{e.name}")
     return hidden
 
