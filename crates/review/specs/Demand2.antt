@@ -12,13 +12,13 @@ use Rattle.nets.specs.declared.NetAnswer.the-variants as Net
 use Rattle.machine.specs.declared.calls.StepAnswer.the-variants as Step
 use Rattle.machine.specs.declared.calls.RunAnswer.the-variants as Run
 use Rattle.answer.specs.declared.EndAnswer.the-variants as End
-use Rattle.review.specs.Words.{ℕ, _+_, _≤_, _<_, _≡_, List, _↔_, length, text-max, budget-max, _≈_, Conf, Book, Net, printBook, printNet, tableOf, machine, load, meantNet, GoodBook, GoodNet, St, Table, moved, place, taken-out, picked, rule-at, Stop, loaded, Sound, book, meaning, Row, view, under, tableBytes, agentsIn, BothSound, sound-table, sound-state, agents, tied-agents, net-agents, Collected, Substituted, Knotted, stopped, run-told, RunAnswer}
+use Rattle.review.specs.Words.{ℕ, _+_, _≤_, _<_, _≡_, List, _↔_, length, text-max, budget-max, _≈_, Conf, Book, Net, printBook, printNet, tableOf, machine, load, meantNet, GoodBook, GoodNet, St, Table, moved, place, taken-out, picked, rule-at, Stop, loaded, Sound, book, meaning, Row, view, under, tableBytes, agentsIn, BothSound, sound-table, sound-state, agents, tied-agents, net-agents, Collected, Substituted, Knotted, RunAnswer}
 use Rattle.review.specs.Promises.{RulesCall, NetCall, StepCall, RunCall, AnswerCall, Printed, net-answer}
-use Rattle.review.specs.Picks.{RunSteps}
+use Rattle.review.specs.Picks.{RunSteps, stop-answer}
 use Rattle.review.specs.Rulebook.{Written, ReadWritten}
 use Rattle.review.specs.Loads.{LoadedSo}
 use Rattle.review.specs.Proofs.{Spelt.book-spelt, Spelt.spelt-book, Spelt.bytes-under, Spelt.bytes-agents, Spelt.bytes-code, Spelt.net-spelt-so, Spelt.spelt-net, Spelt.load-exactly, Spelt.load-means-net, Written.table-exactly}
-use Rattle.review.specs.Proofs.{Calls.step-made as made-exactly, Steps.step-sound-after, Reading.step-reads, OneRun.run-exactly-steps, OneRun.run-leaves-sound, Reads.answer-printed, Reads.printed-answer, Collecting.collects-printed, Collecting.collects-go-on, Collecting.collects-one}
+use Rattle.review.specs.Proofs.{Calls.step-made as made-exactly, Steps.step-sound-after, Reading.step-reads, Told.told-stop, OneRun.run-exactly-steps, Walking.run-sound-after, Reads.answer-printed, Reads.printed-answer, Collecting.collects-printed, Collecting.collects-go-on, Collecting.collects-one}
 
 -- THE RULE TEXT
 -- "An accepted text means exactly what it spells": a rule text is accepted exactly if it is a good book as it is printed,
@@ -112,14 +112,14 @@ step-read = step-reads
 -- A run tells that it stopped for t with n interactions exactly if what is lent is sound, the budget is not too large, and
 -- steps by pick 0 lead to the state after it with n interactions, where it has this reason to stop: nothing waits; or the
 -- head is an interaction and the budget is spent; or no room.
-pub run-is : {w v : List ℕ} {budget : ℕ} {r : RunAnswer} {v′ : List ℕ} (t : Stop) (n : ℕ) → run-told r ≡ stopped t n
-    → RunCall w v budget r v′ ↔ (BothSound w v × (budget ≤ budget-max) × RunSteps w v budget t n v′)
-run-is = run-exactly-steps
+pub run-is : {w v : List ℕ} {budget : ℕ} {v′ : List ℕ} (t : Stop) (n : ℕ)
+    → RunCall w v budget (stop-answer t n) v′ ↔ (BothSound w v × (budget ≤ budget-max) × RunSteps w v budget t n v′)
+run-is t n = run-exactly-steps t n (told-stop t n)
 
 -- What it leaves is sound.
 pub run-sound : {w v : List ℕ} {budget : ℕ} {r : RunAnswer} {v′ : List ℕ} → RunCall w v budget r v′ → ¬ (r ≡ Run.Unsound)
     → BothSound w v′
-run-sound = run-leaves-sound
+run-sound = run-sound-after
 
 -- THE ANSWER
 -- "The printed answer is the ended net with its ties followed": the answer is read exactly if it is printed so.

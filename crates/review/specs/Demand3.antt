@@ -4,10 +4,10 @@ use Rattle.calculus.specs.Order as Order
 use Rattle.rules.specs.declared.RulesAnswer.the-variants as Rules
 use Rattle.nets.specs.declared.NetAnswer.the-variants as Nets
 use Rattle.answer.specs.declared.EndAnswer.the-variants as End
-use Rattle.review.specs.Words.{ℕ, _+_, _*_, _≤_, _≡_, List, length, count, Label, _≈_, Conf, used, over, right, Stop, meaning, view, under, BothSound, sound-state, stopped, run-told, StepAnswer, RunAnswer}
+use Rattle.review.specs.Words.{ℕ, _+_, _*_, _≤_, _≡_, List, length, count, Label, _≈_, Conf, used, over, right, Stop, meaning, view, under, BothSound, sound-state, StepAnswer, RunAnswer}
 use Rattle.review.specs.Promises.{RulesCall, NetCall, StepCall, RunCall, AnswerCall}
 use Rattle.review.specs.Demand2.{answer-read}
-use Rattle.review.specs.Picks.{Accepted, Ends, Call, Moves, Agreed, Calls, ComesToEnd, OneTonnage}
+use Rattle.review.specs.Picks.{Accepted, Ends, stop-answer, Call, Moves, Agreed, Calls, ComesToEnd, OneTonnage}
 use Rattle.review.specs.Proofs.{Started.both-spelt, Started.start-sound, Walking.step-call, Walking.run-call, Walking.moves-sound, Ways.moves-agree, Ways.cells, Ways.comes-to-end, Ways.run-agrees, Ways.ways-agree, Ways.tonnage}
 
 -- Two texts that the two readers accept, one after the other, spell a book and a net.
@@ -52,8 +52,7 @@ module _ {rules net w v : List ℕ} (a : Accepted rules net w v) where
     it-ends = comes-to-end a ends
 
     -- A run never exceeds N either, and where it ended it has made exactly N, at the same net.
-    pub any-run : {budget : ℕ} {r : RunAnswer} {v′ : List ℕ} → RunCall w v budget r v′ → (t : Stop) (n : ℕ)
-        → run-told r ≡ stopped t n
+    pub any-run : {budget : ℕ} {v′ : List ℕ} (t : Stop) (n : ℕ) → RunCall w v budget (stop-answer t n) v′
         → (n ≤ Order.interactions M)
         × (h : BothSound w v′)
         × ((view v′) .waiting .used ≡ 0 → (n ≡ Order.interactions M) × (meaning (sound-state h) ≈ N))

@@ -4,7 +4,7 @@ use Rattle.rules.specs.declared.RulesAnswer.the-variants as Rules
 use Rattle.nets.specs.declared.NetAnswer.the-variants as Nets
 use Rattle.machine.specs.declared.calls.StepAnswer.the-variants as Answer
 use Rattle.machine.specs.declared.calls.RunAnswer.the-variants as Run
-use Rattle.review.specs.Words.{ℕ, zero, suc, _-_, _≤_, _<_, _≡_, List, [], _∷_, _++_, _⊎_, length, count, Label, Step, Steps, Normal, _≈_, Conf, Book, Net, printBook, printNet, GoodBook, GoodNet, meantNet, Found, picked, rule-at, NoRoom, Stop, ended, paused, noroom, meaning, view, under, BothSound, sound-state, stopped, run-told, StepAnswer, RunAnswer}
+use Rattle.review.specs.Words.{ℕ, zero, suc, _-_, _≤_, _<_, _≡_, List, [], _∷_, _++_, _⊎_, length, count, Label, Step, Steps, Normal, _≈_, Conf, Book, Net, printBook, printNet, GoodBook, GoodNet, meantNet, Found, picked, rule-at, NoRoom, Stop, ended, paused, noroom, meaning, view, under, BothSound, sound-state, StepAnswer, RunAnswer}
 use Rattle.review.specs.Promises.{RulesCall, NetCall, StepCall, RunCall}
 use Rattle.review.specs.Rulebook.{Written}
 
@@ -72,11 +72,17 @@ pub record RunSteps (w v : List ℕ) (budget : ℕ) (t : Stop) (n : ℕ) (v′ :
   pub within : n ≤ budget
   pub because : Because w v′ (budget - n) t
 
+-- What such a run answers.
+abbrev pub stop-answer : Stop → ℕ → RunAnswer
+stop-answer ended n = Run.Ended n
+stop-answer paused n = Run.Paused n
+stop-answer noroom n = Run.NoRoom n
+
 -- A call of step or run, whatever it is answered, and the rules that it fires: a refused call fires none.
 pub data Call (w v : List ℕ) : (fired v′ : List ℕ) → Type 0 where
   step : {v′ : List ℕ} {p : ℕ} → StepCall w v p Answer.Moved v′ → Call w v (fires (rule-at (under w) (view v) p)) v′
   step-refused : {v′ : List ℕ} {p : ℕ} {r : StepAnswer} → StepCall w v p r v′ → ¬ (r ≡ Answer.Moved) → Call w v [] v′
-  run : {v′ : List ℕ} {budget : ℕ} {r : RunAnswer} {t : Stop} {n : ℕ} → RunCall w v budget r v′ → run-told r ≡ stopped t n
+  run : {v′ : List ℕ} {budget : ℕ} {t : Stop} {n : ℕ} → RunCall w v budget (stop-answer t n) v′
       → (s : RunSteps w v budget t n v′) → Call w v (s .fired) v′
   run-refused : {v′ : List ℕ} {budget : ℕ} {r : RunAnswer} → RunCall w v budget r v′ → (r ≡ Run.Unsound) ⊎ (r ≡ Run.TooMuch)
       → Call w v [] v′

@@ -1,8 +1,9 @@
 -- A run is determined: from one state, with one budget, picks 0 come to one stop.
+use lib.ListN.{length, length-append}
 use Prim.Native.Nat.{ℕ, zero, suc, _+_, _-_, _≤_, _<_}
 use mathlib.Core.Path.{_≡_, refl, sym, ap, ap₂, subst, _∙_}
 use mathlib.Core.List.{List, [], _∷_}
-use mathlib.Core.Logic.{_↔_, inr}
+use mathlib.Core.Logic.{_↔_}
 use native.Mathlib.Decide.{decLt}
 use native.Mathlib.Omega.{arith}
 use Rattle.parts.specs.Limits.{budget-max}
@@ -10,7 +11,6 @@ use Rattle.model.specs.State.{St}
 use Rattle.model.specs.Table.{Table}
 use Rattle.model.specs.Step.{moved, refused, rule-at}
 use Rattle.model.specs.Stepped.{stepped}
-use Rattle.model.specs.Kept.{walk-sound}
 use Rattle.model.specs.Stopped.{refused-12, refused-13, run-is-right}
 use Rattle.model.specs.Walk.{Walk, stay, take, one-made, made-in, AtHead, Stop, ended, paused, noroom}
 use Rattle.model.specs.Walk as Model
@@ -22,10 +22,10 @@ use Rattle.machine.specs.Calls.{number, stopped, out, run-told, ran-out}
 use Rattle.machine.specs.declared.calls.RunAnswer.{RunAnswer}
 use Rattle.machine.specs.declared.calls.RunAnswer.the-variants as Run
 use Rattle.review.specs.Promises.{RunCall}
-use Rattle.review.specs.Picks.{Moves, none, more, made, first-picks, Because, RunSteps}
-use Rattle.review.specs.Proofs.Steps.{step-went, run-asked, run-exactly, run-kept, run-went}
-use Rattle.review.specs.Proofs.Walking.{moves-sound}
-use Rattle.review.specs.Proofs.Made.{run-steps}
+use Rattle.review.specs.Picks.{fires, Picks, first-picks, Because, RunSteps}
+use Rattle.review.specs.Proofs.Steps.{step-went, run-asked, run-exactly, run-went}
+use Rattle.review.specs.Proofs.Walking.{picks-walk, walk-keeps}
+use Rattle.review.specs.Proofs.Made.{fires-made, run-steps}
 
 module _ (T : Table) (s : St) where
   -- Of a step one thing comes.
@@ -110,22 +110,26 @@ record HeadWalk (w v v′ : List ℕ) (n : ℕ) : Type 0 where
   at-head : AtHead walk
   as-many : made-in walk ≡ n
 
-head-walk : {w v ps v′ : List ℕ} (m : Moves w v ps v′) (k : ℕ) → ps ≡ first-picks (λ i. 0) k → HeadWalk w v v′ (made m)
-unfolding made made-in
-head-walk none k e = record { walk = stay; at-head = tt; as-many = refl }
-head-walk (more {p = p} c m) ℕ.zero e = absurd (let z : _≡_ {A = ℕ} 0 1 = cc in omega arith)
-head-walk (more {p = p} c m) (ℕ.suc k) e =
+head-walk : {w v ps is v′ : List ℕ} (m : Picks w v ps is v′) (k : ℕ) → ps ≡ first-picks (λ i. 0) k
+    → HeadWalk w v v′ (length is)
+unfolding made-in
+head-walk Picks.none k e = record { walk = stay; at-head = tt; as-many = refl }
+head-walk (Picks.more {p = p} c m) ℕ.zero e = absurd (let z : _≡_ {A = ℕ} 0 1 = cc in omega arith)
+head-walk {w} {v} (Picks.more {is = is} {p = p} c m) (ℕ.suc k) e =
     let r = head-walk m k (cc) in
+    let f = rule-at (under w) (view v) p in
     record {
       walk = take p (step-went c .2) (r .walk);
       at-head = (cc, r .at-head);
-      as-many = rw (r .as-many);
+      as-many = omega (arith, r .as-many, fires-made f, length-append (fires f) is);
     }
 
-because : {w v : List ℕ} (left : ℕ) (t : Stop) → BothSound w v → Because w v left t → Model.Because (under w) left (view v) t
-because left ended h b = b
-because left paused h b = b
-because left noroom h (o, l, n) = (o, l, refused-13 (sound-state h) 0 .1 (o, n))
+because : {w v : List ℕ} (unspent : ℕ) (t : Stop) → BothSound w v → Because w v unspent t
+    → Model.Because (under w) unspent (view v) t
+because unspent ended h b = b
+because {w} {v} unspent paused h (o, l, e) = (o, sym (fires-made (rule-at (under w) (view v) 0)) ∙ l, e)
+because {w} {v} unspent noroom h (o, l, n) =
+    (o, omega (arith, l, fires-made (rule-at (under w) (view v) 0)), refused-13 (sound-state h) 0 .1 (o, n))
 
 -- So calls of step by picks 0 that stop where a run does are that run.
 pub steps-run : {w v : List ℕ} {budget : ℕ} {r : RunAnswer} {v′ : List ℕ} {t : Stop} {n : ℕ} → run-told r ≡ stopped t n
@@ -133,9 +137,9 @@ pub steps-run : {w v : List ℕ} {budget : ℕ} {r : RunAnswer} {v′ : List ℕ
 unfolding ran-out
 steps-run {w} {v} {budget} {r} {v′} {t} {n} e h o s =
     let T = under w in
-    let m = head-walk (s .moves) (s .steps) refl in
+    let m = head-walk (s .picks) (s .steps) refl in
     let k = run-is-right (sound-table h) budget (sound-state h) in
-    let x = both-of w v′ (table-given h) (rw (s .there) at (sound-state (moves-sound h (s .moves)))) in
+    let x = both-of w v′ (table-given h) (rw (s .there) at (sound-state (walk-keeps h (picks-walk (s .picks))))) in
     let a : Halts (m .walk) budget t =
     record {
       at-head = m .at-head;
@@ -170,22 +174,3 @@ run-exactly-steps t n e = (
   λ c. (run-went c t n e .0, run-within c e, run-steps c t n e),
   λ (h, o, s). steps-run e h o s,
 )
-
--- What a run leaves is sound, but where it is answered that what was lent is not.
-pub run-leaves-sound : {w v : List ℕ} {budget : ℕ} {r : RunAnswer} {v′ : List ℕ} → RunCall w v budget r v′
-    → ¬ (r ≡ Run.Unsound) → BothSound w v′
-run-leaves-sound {w} {v} {budget} {r} {v′} c n = go r c n
-  where
-    on : (q : RunAnswer) → RunCall w v budget q v′ → (t : Stop) (n : ℕ) → run-told q ≡ stopped t n → BothSound w v′
-    on q c t n e =
-        let k = run-went c t n e in
-        let s = run-is-right (sound-table (k .0)) budget (sound-state (k .0)) in
-        both-of w v′ (table-given (k .0)) (rw (k .3) (walk-sound (sound-table (k .0)) (sound-state (k .0)) (s .walk)))
-
-    go : (q : RunAnswer) → RunCall w v budget q v′ → ¬ (q ≡ Run.Unsound) → BothSound w v′
-    go Run.Unsound c n = absurd (n refl)
-    go Run.TooMuch c n =
-        let h = run-exactly c Run.TooMuch .0 refl .0 in both-of w v′ (table-given h) (rw (run-kept c (inr refl)) (sound-state h))
-    go (Run.Ended m) c n = on (Run.Ended m) c ended m refl
-    go (Run.Paused m) c n = on (Run.Paused m) c paused m refl
-    go (Run.NoRoom m) c n = on (Run.NoRoom m) c noroom m refl

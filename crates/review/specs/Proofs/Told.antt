@@ -4,12 +4,13 @@ use mathlib.Core.Path.{_≡_, refl, sym, ap, subst, _∙_}
 use mathlib.Core.Bool.{Bool, true, false, cond}
 use mathlib.Core.Logic.{_↔_}
 use lib.Dec.{eqb}
-use Rattle.model.specs.Walk.{ended, paused, noroom}
+use Rattle.model.specs.Walk.{Stop, ended, paused, noroom}
 use Rattle.machine.specs.Calls.{Told, made, stopped, number, step-told, run-told}
 use Rattle.machine.specs.declared.calls.StepAnswer.{StepAnswer}
 use Rattle.machine.specs.declared.calls.StepAnswer.the-variants as Step
 use Rattle.machine.specs.declared.calls.RunAnswer.{RunAnswer}
 use Rattle.machine.specs.declared.calls.RunAnswer.the-variants as Run
+use Rattle.review.specs.Picks.{stop-answer}
 
 -- What is told by f can be read back, so what is told alike is alike.
 pub read-back : {A B : Type 0} {f : A → B} (g : B → A) → ((a : A) → g (f a) ≡ a) → {x y : A} → f x ≡ f y → x ≡ y
@@ -42,6 +43,11 @@ run-back (Run.Paused n) = refl
 run-back (Run.NoRoom n) = refl
 run-back Run.Unsound = refl
 run-back Run.TooMuch = refl
+
+pub told-stop : (t : Stop) (n : ℕ) → run-told (stop-answer t n) ≡ stopped t n
+told-stop ended n = refl
+told-stop paused n = refl
+told-stop noroom n = refl
 
 pub run-alike : (r q : RunAnswer) → run-told r ≡ run-told q → r ≡ q
 run-alike r q e = read-back {f = run-told} run-of run-back e

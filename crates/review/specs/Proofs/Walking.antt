@@ -89,7 +89,7 @@ nothing-fired {T} {s} e = subst (WalkOf T s []) (sym e) none-fired
 pub call-walk : {w v is v′ : List ℕ} → Call w v is v′ → WalkOf (under w) (view v) is (view v′)
 call-walk (Call.step {p = p} c) = one-fired p (step-went c .2)
 call-walk (Call.step-refused c n) = nothing-fired (step-kept c n)
-call-walk {w} {v} (Call.run c e s) = subst (WalkOf (under w) (view v) (s .fired)) (s .there) (picks-walk (s .picks))
+call-walk {w} {v} (Call.run c s) = subst (WalkOf (under w) (view v) (s .fired)) (s .there) (picks-walk (s .picks))
 call-walk (Call.run-refused c r) = nothing-fired (run-kept c r)
 
 pub moves-walk : {w v is v′ : List ℕ} → Moves w v is v′ → WalkOf (under w) (view v) is (view v′)
@@ -112,9 +112,9 @@ step-call {r = Step.Unsound} c = ([], Call.step-refused c (λ e. absurd (let z :
 pub run-call : {w v : List ℕ} {budget : ℕ} {r : RunAnswer} {v′ : List ℕ} → RunCall w v budget r v′ → (is : List ℕ) × Call w v is v′
 run-call {r = Run.Unsound} c = ([], Call.run-refused c (inl refl))
 run-call {r = Run.TooMuch} c = ([], Call.run-refused c (inr refl))
-run-call {r = Run.Ended n} c = let s = run-steps c ended n refl in (s .fired, Call.run c refl s)
-run-call {r = Run.Paused n} c = let s = run-steps c paused n refl in (s .fired, Call.run c refl s)
-run-call {r = Run.NoRoom n} c = let s = run-steps c noroom n refl in (s .fired, Call.run c refl s)
+run-call {r = Run.Ended n} c = let s = run-steps c ended n refl in (s .fired, Call.run {t = ended} {n = n} c s)
+run-call {r = Run.Paused n} c = let s = run-steps c paused n refl in (s .fired, Call.run {t = paused} {n = n} c s)
+run-call {r = Run.NoRoom n} c = let s = run-steps c noroom n refl in (s .fired, Call.run {t = noroom} {n = n} c s)
 
 lent-run : {w v : List ℕ} {budget : ℕ} {r : RunAnswer} {v′ : List ℕ} → RunCall w v budget r v′ → ¬ (r ≡ Run.Unsound) → BothSound w v
 lent-run {r = Run.Unsound} c n = absurd (n refl)

@@ -25,7 +25,7 @@ use Rattle.model.specs.Demand3 as Model
 use Rattle.state.specs.Layout.{view}
 use Rattle.sound.specs.Lent.{under}
 use Rattle.lent.specs.Both.{BothSound, sound-table, sound-state}
-use Rattle.machine.specs.Calls.{stopped, run-told}
+use Rattle.review.specs.Proofs.Told.{told-stop}
 use Rattle.machine.specs.declared.calls.StepAnswer.{StepAnswer}
 use Rattle.machine.specs.declared.calls.RunAnswer.{RunAnswer}
 use Rattle.texts.specs.Bytes.{textOf}
@@ -34,7 +34,7 @@ use Rattle.answers.specs.Same.{Same}
 use Rattle.answers.specs.Text.{face-line, eq-lines, answer-text}
 use Rattle.answers.specs.Main.{no-two-tonnages}
 use Rattle.review.specs.Promises.{RunCall, Printed, net-answer, net-lines}
-use Rattle.review.specs.Picks.{Accepted, Ends, Picks, Call, Moves, Agreed, Calls, ComesToEnd, OneTonnage}
+use Rattle.review.specs.Picks.{Accepted, Ends, Picks, stop-answer, Call, Moves, Agreed, Calls, ComesToEnd, OneTonnage}
 use Rattle.review.specs.Proofs.Made.{run-steps}
 use Rattle.review.specs.Proofs.Started.{start-table, start-reads, start-sound, start-ends, state-is}
 use Rattle.review.specs.Proofs.Walking.{WalkOf, picks-walk, picks-steps, call-walk, moves-walk, walk-keeps, moves-sound, Stops, Goes, stop-or-go, picks-long}
@@ -86,14 +86,13 @@ module _ {rules net w v : List ℕ} (a : Accepted rules net w v) {M : List Label
   pub moves-agree : {is v′ : List ℕ} → Moves w v is v′ → Agreed w is v′ M N
   moves-agree m = walk-agrees (moves-walk m)
 
-  pub run-agrees : {budget : ℕ} {r : RunAnswer} {v′ : List ℕ} → RunCall w v budget r v′ → (t : Stop) (n : ℕ)
-      → run-told r ≡ stopped t n
+  pub run-agrees : {budget : ℕ} {v′ : List ℕ} (t : Stop) (n : ℕ) → RunCall w v budget (stop-answer t n) v′
       → (n ≤ Order.interactions M)
       × (h : BothSound w v′)
       × ((view v′) .waiting .used ≡ 0 → (n ≡ Order.interactions M) × (meaning (sound-state h) ≈ N))
-  run-agrees c t n e =
-      let s = run-steps c t n e in
-      let k = walk-agrees (call-walk (Call.run c e s)) in (
+  run-agrees t n c =
+      let s = run-steps c t n (told-stop t n) in
+      let k = walk-agrees (call-walk (Call.run {t = t} {n = n} c s)) in (
         subst (λ i. i ≤ Order.interactions M) (s .interactions) (k .never-more),
         k .sound,
         λ q. let z = k .at-end q in (sym (s .interactions) ∙ z .0, z .2),
