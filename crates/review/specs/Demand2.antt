@@ -2,13 +2,12 @@
 -- is the ended net with its ties followed.
 use Rattle.texts.specs.Books.{Rule}
 use Rattle.texts.specs.Main as Texts
-use Rattle.model.specs.Step.{Answer}
 use Rattle.answers.specs.Main as Ended
 use Rattle.rules.specs.declared.RulesAnswer.the-variants as Rules
 use Rattle.nets.specs.declared.NetAnswer.the-variants as Net
 use Rattle.machine.specs.declared.calls.StepAnswer.the-variants as Step
 use Rattle.answer.specs.declared.EndAnswer.the-variants as End
-use Rattle.review.specs.Words.{ℕ, _+_, _≤_, _≡_, List, _↔_, length, text-max, _≈_, Book, Net, printBook, printNet, tableOf, template, machine, load, meantRule, meantNet, GoodBook, GoodNet, In, St, moved, place, taken-out, picked, rule-at, Stop, loaded, Means, Sound, meaning, Row, view, under, tableBytes, BothSound, sound-table, sound-state, agents, tied-agents, net-agents, Collected, Substituted, Knotted, stopped, run-told, RunAnswer}
+use Rattle.review.specs.Words.{ℕ, _+_, _≤_, _≡_, List, _↔_, length, text-max, _≈_, Book, Net, printBook, printNet, tableOf, template, machine, load, meantRule, meantNet, GoodBook, GoodNet, In, St, place, taken-out, picked, rule-at, Stop, loaded, Means, Sound, meaning, Row, view, under, tableBytes, BothSound, sound-table, sound-state, agents, tied-agents, net-agents, Collected, Substituted, Knotted, stopped, run-told, RunAnswer}
 use Rattle.review.specs.Promises.{RulesCall, NetCall, StepCall, RunCall, AnswerCall, Printed, net-answer}
 use Rattle.review.specs.Picks.{ReadAs, RunSteps}
 use Rattle.review.specs.Proofs.{Spelt.book-spelt, Spelt.spelt-book, Spelt.net-spelt-so, Spelt.spelt-net, Spelt.load-means-net, Steps.step-went, Steps.step-sound-after, Steps.step-row, Steps.row-step, Reading.step-reads, Made.run-steps, Reads.answer-printed}
@@ -57,16 +56,16 @@ module _ {w v : List ℕ} {p : ℕ} {v′ : List ℕ} (c : StepCall w v p Step.M
   pub left-sound : BothSound w v′
   left-sound = step-sound-after c
 
-  -- A row of document 01's step table with the picked equation in its left column and this in its right one.
-  abbrev pub HasRow : Answer → Type 0
-  HasRow = Row (under w) (view v) (taken-out (place (view v) p) (view v)) (picked (view v) p)
+  -- A row of document 01's step table leads from the lent state, with the picked equation taken out, to this one.
+  abbrev pub HasRow : St → Type 0
+  HasRow = Row (under w) (taken-out (place (view v) p) (view v)) (picked (view v) p)
 
   -- "Each step is the one document 01 lays down": it is a row of its step table, of the picked equation,
-  pub step-is-a-row : HasRow (moved (view v′))
+  pub step-is-a-row : HasRow (view v′)
   step-is-a-row = step-row c
 
   -- and whatever row has the picked equation, what is left is its right column.
-  pub row-is-the-step : {s : St} → HasRow (moved s) → view v′ ≡ s
+  pub row-is-the-step : {s : St} → HasRow s → view v′ ≡ s
   row-is-the-step = row-step c
 
   -- "Read as a net, with loops counted as x = x, it is no change, one or two Communications, or one Interaction": by the

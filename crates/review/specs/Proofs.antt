@@ -1,4 +1,3 @@
-pub mod AnyCollects
 pub mod Arrays
 pub mod Collecting
 pub mod Computed
@@ -13,7 +12,6 @@ pub mod Refusals
 pub mod RuleTexts
 pub mod Runs
 pub mod Shown
-pub mod Sources
 pub mod Spelt
 pub mod Steps
 pub mod Told

@@ -18,7 +18,7 @@ pub use Rattle.texts.specs.Coded.{tableOf, template, machine, load}
 pub use Rattle.texts.specs.Meaning.{meantRule, meantNet}
 pub use Rattle.texts.specs.Good.{GoodBook, GoodNet}
 pub use Rattle.texts.specs.Terms.{Term}
-pub use Rattle.model.specs.Step.{picked, moved, place, taken-out, rule-at}
+pub use Rattle.model.specs.Step.{picked, place, taken-out, rule-at}
 pub use Rattle.model.specs.Rows.{NoRoom, Row}
 pub use Rattle.model.specs.State.{St, used, empty}
 pub use Rattle.model.specs.Run.{ran}

@@ -13,6 +13,7 @@ use Rattle.calculus.specs.Terms.{Conf}
 use Rattle.model.specs.Table.{Table, Found, no-entry, entry}
 use Rattle.model.specs.Sound.{Means, book}
 use Rattle.model.specs.Proofs.Books as Books
+use Rattle.model.specs.Proofs.Sources.{one-entry}
 use Rattle.texts.specs.Bytes.{In}
 use Rattle.texts.specs.Books.{Agent, Rule, Book}
 use Rattle.texts.specs.Coded.{template, tableOf, machine}
@@ -23,7 +24,6 @@ use Rattle.sound.specs.Lent.{under}
 use Rattle.lent.specs.Both.{under-is}
 use Rattle.table.specs.Layout.{tableBytes}
 use Rattle.review.specs.Picks.{Accepted, Ends, ReadAs}
-use Rattle.review.specs.Proofs.Sources.{one-entry}
 use Rattle.review.specs.Rulebook.{Written, written, EndsWritten, ReadWritten}
 
 -- A place in a list of rules.
