@@ -6,7 +6,7 @@ use mathlib.Core.Option.{some}
 use Prim.Native.Nat.{ℕ, _+_, _≤_}
 use lib.ListN.{length, length-map}
 use Rattle.calculus.specs.Terms.{Sort, Tree, Eqn, Conf, _∼_, sub-eqn, ren}
-use Rattle.calculus.specs.Calculus.{Book, Label, Step, Valid, Closed}
+use Rattle.calculus.specs.Calculus.{Book, Label, Step, Valid, Closed, Collect}
 use Rattle.calculus.specs.Calculus as Calculus
 use Rattle.calculus.specs.Descent.{Steps, Normal}
 use Rattle.calculus.specs.Nets.{_≈_}
@@ -32,11 +32,12 @@ use Rattle.answers.specs.Same.{Same}
 use Rattle.answers.specs.Printer.{state-answer, answer-bytes}
 use Rattle.answers.specs.Text.{texts, face-line, answer-text}
 use Rattle.answers.specs.Printing.{answer-written}
-use Rattle.answers.specs.Collected.{Collected, Substituted}
+use Rattle.answers.specs.Collected.{Collects, Collected, numbered, fresh, Substituted}
 use Rattle.answers.specs.Knots.{Tied, Hangs, Behind, Held, Knotted}
 use Rattle.answers.specs.Proofs.Circles.{never-met}
 use Rattle.answers.specs.Proofs.Circles as Circles
 use Rattle.answers.specs.Proofs.Collecting.{collected}
+use Rattle.answers.specs.Proofs.AnyCollects.{one-end, any-end-printed, goes-on}
 use Rattle.answers.specs.Proofs.Substituting.{substituted}
 use Rattle.answers.specs.Proofs.ReadBack.{answer-reads}
 use Rattle.answers.specs.Proofs.Whole as Whole
@@ -73,6 +74,22 @@ interface-collected {C = C} v n = collected C v (Nets.once n)
 pub pairs-substituted : {B : Book} {C : Conf} (v : Valid C) (n : Normal (Step B) C)
     → Substituted C (interface-collected v n)
 pairs-substituted {C = C} v n = substituted C v (Nets.once n)
+
+-- DOES IT MATTER IN WHICH ORDER COLLECTS ARE MADE? No: where none leads on, the interface is the printed one, once its
+-- names are numbered by first meeting.
+pub any-collects : {B : Book} {C D : Conf} → Valid C → Normal (Step B) C → Collects C D
+    → ((E : Conf) → Collect D E → ⊥) → (answer C) .face ≡ (numbered (D .face) fresh) .shown
+any-collects v n w m = any-end-printed v (interface-collected v n) w m
+
+-- From wherever they are, they can go on to such an end,
+pub collects-end : {B : Book} {C D : Conf} → Valid C → Normal (Step B) C → Collects C D
+    → (E : Conf) × Collects D E × ((F : Conf) → Collect E F → ⊥)
+collects-end v n w = goes-on v (interface-collected v n) w
+
+-- and two such ends are one net up to names, order and sides; of any valid net.
+pub collects-agree : {C D E : Conf} → Valid C → Collects C D → ((F : Conf) → Collect D F → ⊥) → Collects C E
+    → ((F : Conf) → Collect E F → ⊥) → D ≈ E
+collects-agree v w n u m = one-end v w n u m
 
 -- WHAT IS THE KNOT? When the end is read, each tie is held or is left,
 pub held-or-left : {B : Book} {C : Conf} → Normal (Step B) C → (x : ℕ) → Tied (C .eqs) x

@@ -27,6 +27,7 @@ pub mod Along
 pub mod Meeting
 pub mod Gather
 pub mod Collecting
+pub mod AnyCollects
 pub mod Spot
 pub mod Substituting
 pub mod Ties

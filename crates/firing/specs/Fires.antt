@@ -6,7 +6,7 @@ use lib.ListN.{length, getD}
 use lib.Seq.{sets}
 use Rattle.parts.specs.Limits.{arity-max, cells-max, names-max}
 use Rattle.model.specs.State.{St, used}
-use Rattle.model.specs.Step.{Room}
+use Rattle.model.specs.Stepped.{Room}
 use Rattle.kept.specs.Right.{Right}
 use Rattle.kept.specs.declared.Kept.{Kept}
 use Rattle.table.specs.Layout.{entryAt}

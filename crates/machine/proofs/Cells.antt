@@ -140,7 +140,7 @@ module _ (w : List ℕ) (a b k : ℕ) (s : St) (f : Meetable w a b k s) where
     step-held : m ≡ Nothing → stepped (under w) s pick ≡ moved (held a b (taken-out k s))
     step-held e =
         step-table (f .sound) pick waits
-        (subst (λ q. Row (under w) s (taken-out (place s pick) s) q (moved (held a b (taken-out (place s pick) s)))) (sym there)
+        (subst (λ q. Row (under w) (taken-out (place s pick) s) q (held a b (taken-out (place s pick) s))) (sym there)
         (no-rule (found-none (rule-of (under w) a b s) m told e)))
         ∙ ap (λ n. moved (held a b (taken-out n s))) at
 

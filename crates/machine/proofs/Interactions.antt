@@ -9,8 +9,8 @@ use borrow.Author.Tests.{leb-true, le-leb}
 use Rattle.parts.specs.Limits.{cells-max, names-max, waiting-max}
 use Rattle.model.specs.State.{St, used}
 use Rattle.model.specs.Table.{Entry}
-use Rattle.model.specs.Step.{Answer, moved, refused, fired, Room}
-use Rattle.model.specs.Stepped.{fire-if}
+use Rattle.model.specs.Step.{Answer, moved, refused, fired}
+use Rattle.model.specs.Stepped.{Room, fire-if}
 use Rattle.model.specs.Stepped as Step
 use Rattle.state.specs.Moves.{out-of-waiting}
 use Rattle.table.specs.Layout.{entryAt, entryOf}

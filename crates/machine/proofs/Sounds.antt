@@ -101,7 +101,7 @@ same-name : (s : St) (x y : NameNo) → x .0 ≡ y .0 → loop-here (Name x) (Na
 unfolding loop-here
 same-name s x y e = rw (eq-eqb _ _ e)
 
-joined-name : (s : St) (x y : NameNo) → Joined (s .names) (x .0) (y .0) → loop-here (Name x) (Name y) s ≡ true
+joined-name : (s : St) (x y : NameNo) → Joined s (x .0) (y .0) → loop-here (Name x) (Name y) s ≡ true
 unfolding loop-here
 joined-name s x y e = go (eqb (x .0) (y .0))
   where
@@ -118,7 +118,7 @@ full-is s l r a b e = rw (loops-full s a b) e
 
 -- there is no room for an equation of two names only where it is a loop and the count is at its end
 no-room-names : {T : Table} {s : St} {q : Pair} → NoRoom T s q → (x y : ℕ) → q ≡ (name x := name y)
-    → (loops-max ≤ s .loops) × ((x ≡ y) ⊎ Joined (s .names) x y)
+    → (loops-max ≤ s .loops) × ((x ≡ y) ⊎ Joined s x y)
 no-room-names (for-interaction e o) x y q = absurd (let z : _≡_ {A = ℕ} 0 1 = cc in omega arith)
 no-room-names (for-loop {x = v} b) x y q = (b, inl (let z : v ≡ x = cc in let w : v ≡ y = cc in cc))
 no-room-names {s = s} (for-joined-loop {x = v} {y = w} j b) x y q =
@@ -136,13 +136,13 @@ no-room-mixed (for-joined-loop j b) x c (inr q) = let z : _≡_ {A = ℕ} 0 1 = 
 
 -- and a loop that can't be counted has no room
 full-names : (s : St) (x y : NameNo) → full-loop (Name x) (Name y) s ≡ true
-    → (loops-max ≤ s .loops) × ((x .0 ≡ y .0) ⊎ Joined (s .names) (x .0) (y .0))
+    → (loops-max ≤ s .loops) × ((x .0 ≡ y .0) ⊎ Joined s (x .0) (y .0))
 unfolding full-loop loop-here
 full-names s x y = go (eqb (s .loops) loops-max) refl (eqb (x .0) (y .0)) refl
   where
     go : (b : Bool) → eqb (s .loops) loops-max ≡ b → (d : Bool) → eqb (x .0) (y .0) ≡ d
         → pick b (pick d true (eqb (getD (s .names) (x .0) 0) (Wiring.bound (Name y)))) false ≡ true
-        → (loops-max ≤ s .loops) × ((x .0 ≡ y .0) ⊎ Joined (s .names) (x .0) (y .0))
+        → (loops-max ≤ s .loops) × ((x .0 ≡ y .0) ⊎ Joined s (x .0) (y .0))
     go true p true q e = (omega (arith, eqb-true (s .loops) loops-max p), inl (eqb-true (x .0) (y .0) q))
     go true p false q e =
         let w = eqb-true (getD (s .names) (x .0) 0) (Wiring.bound (Name y)) e in
@@ -157,7 +157,7 @@ full-mixed s x c = go (eqb (s .loops) loops-max)
     go true = refl
     go false = refl
 
-roomless-names : (T : Table) (s : St) (x y : ℕ) → (loops-max ≤ s .loops) × ((x ≡ y) ⊎ Joined (s .names) x y)
+roomless-names : (T : Table) (s : St) (x y : ℕ) → (loops-max ≤ s .loops) × ((x ≡ y) ⊎ Joined s x y)
     → NoRoom T s (name x := name y)
 roomless-names T s x y (b, inl e) = subst (λ z. NoRoom T s (name x := name z)) e (for-loop b)
 roomless-names T s x y (b, inr j) = for-joined-loop j b
@@ -184,7 +184,7 @@ module _ {T : Table} (t : SoundTable T) (s : St) (h : Sound T s) (p k : ℕ) (o 
       let n = no-room-names ((refused-13 h p) .0 q .1) (x .0) (y .0) e in
       full-is s (Name x) (Name y) (h .sizes .loops) (n .0) (looped (n .1))
     where
-      looped : (x .0 ≡ y .0) ⊎ Joined (s .names) (x .0) (y .0) → loop-here (Name x) (Name y) s ≡ true
+      looped : (x .0 ≡ y .0) ⊎ Joined s (x .0) (y .0) → loop-here (Name x) (Name y) s ≡ true
       looped (inl e) = same-name s x y e
       looped (inr j) = joined-name s x y j
   refused-full (as-is {x = x} {r = Cell c} e) q = absurd (no-room-mixed ((refused-13 h p) .0 q .1) (x .0) (c .0) (inl e))

@@ -2,19 +2,18 @@
 -- rule of the pair.
 use mathlib.Core.Path.{_≡_, sym, subst}
 use mathlib.Core.List.{List}
-use Prim.Native.Nat.{ℕ, suc, _<_}
-use lib.ListN.{set}
+use Prim.Native.Nat.{ℕ, _<_}
 use Rattle.calculus.specs.Calculus.{Label}
 use Rattle.parts.specs.Limits.{loops-max}
 use Rattle.parts.specs.Sides.{name, _:=_, Pair}
-use Rattle.model.specs.State.{St, with-names, with-loops}
+use Rattle.model.specs.State.{St}
 use Rattle.model.specs.Table.{Table, Found, none, straight, turned}
-use Rattle.model.specs.Step.{moved, place, taken-out, picked, rule-at, Answer}
+use Rattle.model.specs.Step.{moved, place, taken-out, picked, rule-at}
 use Rattle.model.specs.Stepped.{stepped}
 use Rattle.model.specs.Sound.{Sound, meaning}
 use Rattle.model.specs.SoundTable.{SoundTable}
 use Rattle.model.specs.Kept.{step-sound}
-use Rattle.model.specs.Rows.{Joined, Row, loop, loop-joined}
+use Rattle.model.specs.Rows.{Joined, free, count-loop, Row, loop, loop-joined}
 use Rattle.model.specs.StepTable.{step-table}
 use Rattle.model.specs.Follow.{drops, Labels, communications, interaction, interaction-turned, ReadAs}
 use Rattle.model.specs.Proofs.Moves.{Kind, wiring, by-straight, by-turned}
@@ -37,17 +36,13 @@ demand-2 {T} t {s} {s′} h p e =
 
 -- The two slips of document 001 are loops here: III.c_c with x joined to y, and III.0_0 on x = x.
 module _ {T : Table} {s : St} (h : Sound T s) (p : ℕ) (o : p < s .waiting .used) (l : s .loops < loops-max) where
-  -- One loop more, with other names and without the picked equation.
-  abbrev pub one-loop : List ℕ → Answer
-  one-loop n = moved (with-loops (suc (s .loops)) (with-names n (taken-out (place s p) s)))
+  by-row : {q : Pair} {s′ : St} → picked s p ≡ q → Row T (taken-out (place s p) s) q s′ → stepped T s p ≡ moved s′
+  by-row {s′ = s′} e r = step-table h p o (subst (λ q. Row T (taken-out (place s p) s) q s′) (sym e) r)
 
-  by-row : {q : Pair} (n : List ℕ) → picked s p ≡ q → Row T s (taken-out (place s p) s) q (one-loop n)
-      → stepped T s p ≡ one-loop n
-  by-row n e r = step-table h p o (subst (λ q. Row T s (taken-out (place s p) s) q (one-loop n)) (sym e) r)
+  pub slip-c-c : {x y : ℕ} → picked s p ≡ (name x := name y) → Joined s x y
+      → stepped T s p ≡ moved (count-loop (free y (free x (taken-out (place s p) s))))
+  slip-c-c e j = by-row e (loop-joined j l)
 
-  pub slip-c-c : {x y : ℕ} → picked s p ≡ (name x := name y) → Joined (s .names) x y
-      → stepped T s p ≡ one-loop (set (set (s .names) x 0) y 0)
-  slip-c-c {x} {y} e j = by-row (set (set (s .names) x 0) y 0) e (loop-joined j l)
-
-  pub slip-0-0 : {x : ℕ} → picked s p ≡ (name x := name x) → stepped T s p ≡ one-loop (set (s .names) x 0)
-  slip-0-0 {x} e = by-row (set (s .names) x 0) e (loop (self-bare s h p o x e) l)
+  pub slip-0-0 : {x : ℕ} → picked s p ≡ (name x := name x)
+      → stepped T s p ≡ moved (count-loop (free x (taken-out (place s p) s)))
+  slip-0-0 {x} e = by-row e (loop (self-bare s h p o x e) l)

@@ -23,5 +23,4 @@ pub mod AtEnd
 pub mod Tested
 pub mod Lowest
 pub mod Cases
-pub mod Listing
 pub mod Proofs

@@ -9,6 +9,7 @@ pub mod Bonds
 pub mod Pool
 pub mod Wire
 pub mod Store
+pub mod Froms
 pub mod Lows
 pub mod Cellwork
 pub mod Frame
@@ -26,6 +27,7 @@ pub mod Walks
 pub mod Runs
 pub mod Search
 pub mod Loaded
+pub mod Sources
 pub mod Ranges
 pub mod Counted
 pub mod Selves

@@ -1,14 +1,13 @@
--- What the rows of the step table speak of: the picked equation, an equation put, a pair held, a rule fired, two
--- names joined, and room. How a step is computed with it stands in Stepped.antt; that it is the row that holds, in
--- StepTable.antt.
+-- What the rows of the step table speak of: the picked equation, an equation put, a pair held, a rule fired. How a step
+-- is computed with it stands in Stepped.antt; that it is the row that holds, in StepTable.antt.
 use mathlib.Core.List.{List, [], _∷_, _++_, map}
-use Prim.Native.Nat.{ℕ, suc, _+_, _*_, _-_, _≤_, pred}
+use Prim.Native.Nat.{ℕ, suc, _+_, _*_, _-_, pred}
 use lib.ListN.{length, getD, take, drop, set}
 use lib.Seq.{sets}
-use Rattle.parts.specs.Limits.{arity-max, cells-max, names-max, waiting-max}
+use Rattle.parts.specs.Limits.{arity-max}
 use Rattle.parts.specs.Sides.{Side, name, cell, Pair, _:=_, code, side}
 use Rattle.model.specs.State.{Stack, stack, St, with-cells, with-names, with-waiting, with-stuck}
-use Rattle.model.specs.State.{equation, pushed, pushed-all, pulled, bound, used, lowest, zeros}
+use Rattle.model.specs.State.{equation, pushed, pushed-all, pulled, lowest, zeros}
 use Rattle.model.specs.Table.{Cell, Entry, Table, Found, none, find}
 
 -- A state after a step, or the number of a refusal.
@@ -104,18 +103,6 @@ fired e a b s =
     (write-symbols (new-cells e a b s) (copies e a b s) (freed a b (s .symbols)))
     (write-arguments (new-cells e a b s) (copies e a b s) (zero-cell b (zero-cell a (s .arguments))))
     s))
-
--- Two names joined: each tells of the other.
-abbrev pub joined : ℕ → ℕ → List ℕ → List ℕ
-joined x y l = set (set l x (bound (name y))) y (bound (name x))
-
--- Room for a rule's right side: none of what number 13 names passes its size (`Passes` in Rows.antt has the words).
--- Here the picked equation has left the list, so waiting is already less 1.
-abbrev pub Room : Entry → St → Type 0
-Room e s =
-    (used (s .symbols) - 2 + length (e .cells) ≤ cells-max)
-    × (used (s .names) + e .fresh ≤ names-max)
-    × (s .waiting .used + length (e .body) ≤ waiting-max)
 
 -- The rule of two cells, by their symbols.
 abbrev pub symbol-of : ℕ → St → ℕ

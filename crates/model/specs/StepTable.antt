@@ -1,21 +1,23 @@
 -- Theorem 0: a step is the step table, row by row.
-use mathlib.Core.Path.{_≡_, sym, _∙_, subst}
+use mathlib.Core.Path.{_≡_}
 use Prim.Native.Nat.{ℕ, _<_}
 use Rattle.model.specs.State.{St}
 use Rattle.model.specs.Table.{Table}
-use Rattle.model.specs.Step.{Answer, place, taken-out, picked}
+use Rattle.model.specs.Step.{moved, place, taken-out, picked}
 use Rattle.model.specs.Stepped.{stepped}
 use Rattle.model.specs.Sound.{Sound}
-use Rattle.model.specs.Rows.{Row}
-use Rattle.model.specs.Proofs.Tabled.{row-act, acts, some-row}
+use Rattle.model.specs.Rows.{NoRoom, Row}
+use Rattle.model.specs.Proofs.Refused.{row-moves, moves-by-row, has-row}
 
 module _ {T : Table} {s : St} (h : Sound T s) (p : ℕ) (o : p < s .waiting .used) where
-  -- Where the left column of a row holds, the step gives exactly its right column.
-  pub step-table : {a : Answer} → Row T s (taken-out (place s p) s) (picked s p) a → stepped T s p ≡ a
-  step-table r = acts T s p o ∙ row-act T s p (h .joins) r
+  -- Where the left column of a row holds, the step leads to its right column.
+  pub step-table : {s′ : St} → Row T (taken-out (place s p) s) (picked s p) s′ → stepped T s p ≡ moved s′
+  step-table = row-moves h p o
 
-  -- And there is a row for every picked equation.
-  pub every-step : Row T s (taken-out (place s p) s) (picked s p) (stepped T s p)
-  every-step =
-      let k = some-row T s p h o in
-      subst (Row T s (taken-out (place s p) s) (picked s p)) (sym (step-table (k .1))) (k .1)
+  -- Each step that is made is by a row,
+  pub every-step : {s′ : St} → stepped T s p ≡ moved s′ → Row T (taken-out (place s p) s) (picked s p) s′
+  every-step = moves-by-row h p o
+
+  -- and where there is room there is one.
+  pub some-row : ¬ NoRoom T s (picked s p) → (s′ : St) × Row T (taken-out (place s p) s) (picked s p) s′
+  some-row = has-row h p o

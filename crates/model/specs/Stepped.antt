@@ -1,15 +1,24 @@
 -- How the step on a picked equation is computed. `step-table` and `every-step` (StepTable.antt) say that it is the
 -- row of the step table (Rows.antt) whose left column holds.
-use Prim.Native.Nat.{ℕ, suc}
+use Prim.Native.Nat.{ℕ, _+_, _-_, _≤_}
 use native.Mathlib.Decide.{ℕ-discrete, decLt, decLe}
-use lib.ListN.{set}
-use Rattle.parts.specs.Limits.{loops-max}
+use lib.ListN.{length}
+use Rattle.parts.specs.Limits.{cells-max, names-max, waiting-max, loops-max}
 use Rattle.parts.specs.Sides.{Side, name, cell, Pair, _:=_}
-use Rattle.model.specs.State.{St, with-names, with-loops, bound}
+use Rattle.model.specs.State.{St, with-names, used}
 use Rattle.model.specs.Table.{Entry, Table, none, straight, turned}
-use Rattle.model.specs.Step.{Answer, moved, refused, place, picked, taken-out, put, held, fired, joined, Room, rule-of}
+use Rattle.model.specs.Step.{Answer, moved, refused, place, picked, taken-out, put, held, fired, rule-of}
+use Rattle.model.specs.Rows.{tie, join, free, count-loop}
 use Rattle.model.specs.Follow.{follow}
 use Rattle.model.specs.Proofs.Decisions.{all-three}
+
+-- Room for a rule's right side: none of what number 13 names passes its size (`Passes` in Rows.antt has the words).
+-- Here the picked equation has left the list, so waiting is already less 1.
+abbrev pub Room : Entry → St → Type 0
+Room e s =
+    (used (s .symbols) - 2 + length (e .cells) ≤ cells-max)
+    × (used (s .names) + e .fresh ≤ names-max)
+    × (s .waiting .used + length (e .body) ≤ waiting-max)
 
 -- Two cells: if there is a rule and room for it, its right side is put; if there is no rule, the pair is stuck.
 abbrev pub room : (e : Entry) (s : St) → Dec (Room e s)
@@ -31,16 +40,12 @@ meet T a b s =
 -- end".
 abbrev pub looped : ℕ → St → Answer
 looped x s =
-    elim (decLt (s .loops) loops-max) [
-      | yes h ↦ moved (with-loops (suc (s .loops)) (with-names (set (s .names) x 0) s))
-      | no h ↦ refused 13
-    ]
+    elim (decLt (s .loops) loops-max) [ yes h ↦ moved (count-loop (free x s)) | no h ↦ refused 13 ]
 
 abbrev pub fasten : Side → Side → St → Answer
-fasten (name x) (name y) s =
-    elim (ℕ-discrete x y) [ yes p ↦ looped x s | no p ↦ moved (with-names (joined x y (s .names)) s) ]
-fasten (name x) (cell c) s = moved (with-names (set (s .names) x (bound (cell c))) s)
-fasten (cell c) (name y) s = moved (with-names (set (s .names) y (bound (cell c))) s)
+fasten (name x) (name y) s = elim (ℕ-discrete x y) [ yes p ↦ looped x s | no p ↦ moved (join x y s) ]
+fasten (name x) (cell c) s = moved (tie x c s)
+fasten (cell c) (name y) s = moved (tie y c s)
 fasten (cell a) (cell b) s = moved (put (cell a := cell b) s)
 
 abbrev pub wire : Side → Side → St → Answer

@@ -14,9 +14,9 @@ use Rattle.model.specs.Sound.{Sound}
 use Rattle.model.specs.SoundTable.{SoundTable}
 use Rattle.model.specs.Walk.{Stopped}
 use Rattle.model.specs.Rows.{NoRoom}
-use Rattle.model.specs.StepTable.{step-table, every-step}
-use Rattle.model.specs.Proofs.Refused.{number, refusing, roomless}
+use Rattle.model.specs.Proofs.Refused.{number, refusing}
 use Rattle.model.specs.Proofs.Runs.{MovedOr13, picked-answers, past-answers, run-stopped}
+use Rattle.model.specs.Proofs.Tabled.{roomless}
 
 -- A run from a sound state is a walk by picks 0 to its state, with as many interactions as it says, and stops for its
 -- reason.
@@ -36,8 +36,8 @@ refused-12 T s p = (λ e. go e (decLt p (s .waiting .used)), λ h. past-answers 
 pub refused-13 : {T : Table} {s : St} → Sound T s → (p : ℕ)
     → (stepped T s p ≡ refused 13) ↔ ((p < s .waiting .used) × NoRoom T s (picked s p))
 refused-13 {T} {s} h p = (
-  λ e. let o = waits e (decLt p (s .waiting .used)) in (o, refusing T s p (every-step h p o) e),
-  λ k. step-table h p (k .0) (roomless T s p h (k .0) (k .1)),
+  λ e. let o = waits e (decLt p (s .waiting .used)) in (o, refusing h p o e),
+  λ k. roomless T s p h (k .0) (k .1),
 )
   where
     waits : stepped T s p ≡ refused 13 → Dec (p < s .waiting .used) → p < s .waiting .used

@@ -12,7 +12,7 @@ use Rattle.nets.specs.declared.NetAnswer.the-variants as Net
 use Rattle.machine.specs.declared.calls.StepAnswer.the-variants as Step
 use Rattle.machine.specs.declared.calls.RunAnswer.the-variants as Run
 use Rattle.answer.specs.declared.EndAnswer.the-variants as End
-use Rattle.review.specs.Words.{ℕ, _+_, _≤_, _<_, _≡_, List, _↔_, length, text-max, budget-max, _≈_, Conf, Book, Net, printBook, printNet, tableOf, machine, load, meantNet, GoodBook, GoodNet, St, Table, moved, place, taken-out, picked, rule-at, Stop, loaded, Sound, book, meaning, Row, view, under, tableBytes, agentsIn, BothSound, sound-table, sound-state, agents, tied-agents, net-agents, Collected, Substituted, Knotted, RunAnswer}
+use Rattle.review.specs.Words.{ℕ, _+_, _≤_, _<_, _≡_, List, _↔_, length, text-max, budget-max, _≈_, Conf, Book, Net, printBook, printNet, tableOf, machine, load, meantNet, GoodBook, GoodNet, St, Table, place, taken-out, picked, rule-at, Stop, loaded, Sound, book, meaning, Row, view, under, tableBytes, agentsIn, BothSound, sound-table, sound-state, agents, tied-agents, net-agents, Collected, Substituted, Knotted, RunAnswer}
 use Rattle.review.specs.Promises.{RulesCall, NetCall, StepCall, RunCall, AnswerCall, Printed, net-answer}
 use Rattle.review.specs.Picks.{RunSteps, stop-answer}
 use Rattle.review.specs.Rulebook.{Written, ReadWritten}
@@ -94,7 +94,7 @@ pub step-made : {w v v′ : List ℕ} {p : ℕ}
     → StepCall w v p Step.Moved v′
     ↔ (BothSound w v
     × (p < (view v) .waiting .used)
-    × Row (under w) (view v) (taken-out (place (view v) p) (view v)) (picked (view v) p) (moved (view v′)))
+    × Row (under w) (taken-out (place (view v) p) (view v)) (picked (view v) p) (view v′))
 step-made = made-exactly
 
 -- What it leaves is sound.

@@ -1,4 +1,3 @@
-pub mod AnyCollects
 pub mod Arrays
 pub mod Calls
 pub mod Collecting
@@ -12,7 +11,6 @@ pub mod Reading
 pub mod Reads
 pub mod Runs
 pub mod Shown
-pub mod Sources
 pub mod Spelt
 pub mod Started
 pub mod Steps

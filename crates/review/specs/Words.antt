@@ -13,7 +13,7 @@ pub use Rattle.texts.specs.Refused.{Begins, BadLine, records, rulesWritten, Rul
 pub use Rattle.texts.specs.Coded.{tableOf, machine, load}
 pub use Rattle.texts.specs.Meaning.{meantNet}
 pub use Rattle.texts.specs.Good.{GoodBook, GoodNet}
-pub use Rattle.model.specs.Step.{picked, moved, place, taken-out, rule-at}
+pub use Rattle.model.specs.Step.{picked, place, taken-out, rule-at}
 pub use Rattle.model.specs.Rows.{NoRoom, Row}
 pub use Rattle.model.specs.State.{St, used, empty}
 pub use Rattle.model.specs.Load.{loaded}

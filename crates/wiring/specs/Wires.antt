@@ -14,8 +14,9 @@ use Rattle.parts.specs.Typed.{plain, typed, plain-typed}
 use Rattle.parts.specs.declared.NameNo.{NameNo}
 use Rattle.parts.specs.declared.Side.{Side}
 use Rattle.parts.specs.declared.Side.the-variants.{Name, Cell}
-use Rattle.model.specs.State.{St, with-names, with-loops, to, bond}
-use Rattle.model.specs.Step.{Answer, moved, refused, joined}
+use Rattle.model.specs.State.{St, with-names, to, bond}
+use Rattle.model.specs.Step.{Answer, moved, refused}
+use Rattle.model.specs.Rows.{join, free, count-loop}
 use Rattle.model.specs.Follow.{follow, follow-by}
 use Rattle.model.specs.Stepped.{fasten, wire, looped}
 use Rattle.state.specs.Places.{stored}
@@ -58,20 +59,14 @@ fastens (Name x) (Name y) s h = go (ℕ-discrete (x .0) (y .0)) h
     n = omega arith
 
     loops : (e : Dec (s .loops < loops-max))
-        → ¬ (elim e as (λ w. Answer) [
-          | yes k ↦ moved (with-loops (suc (s .loops)) (with-names (set (s .names) (x .0) 0) s))
-          | no k ↦ refused 13
-        ] ≡ refused 13)
-        → elim e as (λ w. Answer) [
-          | yes k ↦ moved (with-loops (suc (s .loops)) (with-names (set (s .names) (x .0) 0) s))
-          | no k ↦ refused 13
-        ] ≡ moved (with-loops (suc (s .loops)) (with-names (set (s .names) (x .0) 0) s))
+        → ¬ (elim e as (λ w. Answer) [ yes k ↦ moved (count-loop (free (x .0) s)) | no k ↦ refused 13 ] ≡ refused 13)
+        → elim e as (λ w. Answer) [ yes k ↦ moved (count-loop (free (x .0) s)) | no k ↦ refused 13 ] ≡ moved (count-loop (free (x .0) s))
     loops (yes k) h = refl
     loops (no k) h = absurd (h refl)
 
     go : (d : Dec (x .0 ≡ y .0))
-        → ¬ (elim d as (λ w. Answer) [ yes p ↦ looped (x .0) s | no p ↦ moved (with-names (joined (x .0) (y .0) (s .names)) s) ] ≡ refused 13)
-        → elim d as (λ w. Answer) [ yes p ↦ looped (x .0) s | no p ↦ moved (with-names (joined (x .0) (y .0) (s .names)) s) ]
+        → ¬ (elim d as (λ w. Answer) [ yes p ↦ looped (x .0) s | no p ↦ moved (join (x .0) (y .0) s) ] ≡ refused 13)
+        → elim d as (λ w. Answer) [ yes p ↦ looped (x .0) s | no p ↦ moved (join (x .0) (y .0) s) ]
         ≡ moved (fastened (Name x) (Name y) s)
     go (yes p) h = rw (eq-eqb _ _ p, n) (loops (decLt (s .loops) loops-max) h)
     go (no p) h = rw (ne-eqb _ _ p) (ap₂ (λ v w. moved (with-names (set (set (s .names) (x .0) v) (y .0) w) s)) (omega arith) (omega arith))
@@ -82,15 +77,12 @@ pub counts : (x y : NameNo) (s : St) → x .0 ≡ y .0 → ¬ (fasten (plain (Na
 counts x y s p h = go (decLt (s .loops) loops-max)
   where
     full : ¬ (s .loops < loops-max) → (e : Dec (s .loops < loops-max))
-        → elim e as (λ w. Answer) [
-          | yes k ↦ moved (with-loops (suc (s .loops)) (with-names (set (s .names) (x .0) 0) s))
-          | no k ↦ refused 13
-        ] ≡ refused 13
+        → elim e as (λ w. Answer) [ yes k ↦ moved (count-loop (free (x .0) s)) | no k ↦ refused 13 ] ≡ refused 13
     full f (yes k) = absurd (f k)
     full f (no k) = refl
 
     at : ¬ (s .loops < loops-max) → (d : Dec (x .0 ≡ y .0))
-        → elim d as (λ w. Answer) [ yes p ↦ looped (x .0) s | no p ↦ moved (with-names (joined (x .0) (y .0) (s .names)) s) ]
+        → elim d as (λ w. Answer) [ yes p ↦ looped (x .0) s | no p ↦ moved (join (x .0) (y .0) s) ]
         ≡ refused 13
     at f (yes q) = full f (decLt (s .loops) loops-max)
     at f (no q) = absurd (q p)

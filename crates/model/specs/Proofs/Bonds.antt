@@ -12,11 +12,14 @@ use Rattle.calculus.specs.Terms.{Perm, none, keep, step}
 use Rattle.parts.specs.Sides.{Side, name, cell, Pair, _:=_}
 use Rattle.parts.specs.Codes.{side-code}
 use Rattle.model.specs.State.{bound}
-use Rattle.model.specs.Step.{joined}
 use Rattle.model.specs.Follow.{drop-bond}
 use Rattle.model.specs.Reading.{bonds, link, bond-at}
 use Rattle.model.specs.Sound.{Mutual}
 use Rattle.model.specs.Proofs.Parts.{PairSides, PairSides-equivalence, turn}
+
+-- The words of the names where two are joined: each tells of the other.
+abbrev pub joined : ℕ → ℕ → List ℕ → List ℕ
+joined x y l = set (set l x (bound (name y))) y (bound (name x))
 
 infix 40 _≃_
 abbrev pub _≃_ : List Pair → List Pair → Type 0

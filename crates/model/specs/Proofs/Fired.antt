@@ -18,7 +18,8 @@ use Rattle.parts.specs.Sides.{Side, cell, Pair, _:=_}
 use Rattle.model.specs.State.{St, unpack, pushed-all, used, from, listed}
 use Rattle.model.specs.Table.{Cell, Entry, Table, Found, straight, turned, no-cell, entry}
 use Rattle.model.specs.Step.{inst-pair, new-cells, new-names, env, alloc, write-symbols}
-use Rattle.model.specs.Step.{write-arguments, set-bare, zero-cell, copies, fired, Room, symbol-of}
+use Rattle.model.specs.Step.{write-arguments, set-bare, zero-cell, copies, fired, symbol-of}
+use Rattle.model.specs.Stepped.{Room}
 use Rattle.model.specs.Reading.{ReadsAll, bonds, pool-of, circles, Whole}
 use Rattle.model.specs.Sound.{Mutual, cell-at, live, book, AllHeld, mem-of, sides}
 use Rattle.model.specs.SoundTable.{SoundEntry, SoundTable}

@@ -1,7 +1,7 @@
 -- The rows of the step table that have a name on a side, one by one, on the names as they are before the step.
 use mathlib.Core.Path.{_≡_, refl, sym, _∙_, ap}
 use mathlib.Core.List.{List, []}
-use Prim.Native.Nat.{ℕ, suc, _≤_, _<_}
+use Prim.Native.Nat.{ℕ, _≤_, _<_}
 use native.Mathlib.Decide.{ℕ-discrete, decLt}
 use native.Mathlib.Omega.{arith}
 use lib.ListN.{getD, set, length-set}
@@ -9,11 +9,11 @@ use lib.Seq.{getD-set-same, getD-set-other, set-set, set-comm}
 use Rattle.parts.specs.Limits.{loops-max}
 use Rattle.parts.specs.Sides.{Side, name, cell, _:=_}
 use Rattle.parts.specs.Codes.{side-code}
-use Rattle.model.specs.State.{St, bound, to, bond, with-names, with-loops}
+use Rattle.model.specs.State.{St, bound, to, bond, with-names}
 use Rattle.model.specs.Step.{Answer, moved, refused, put}
 use Rattle.model.specs.Follow.{Followed, drop-bond, follow-by, follow}
 use Rattle.model.specs.Stepped.{looped, fasten, wire}
-use Rattle.model.specs.Step.{joined}
+use Rattle.model.specs.Rows.{Bare, Tied, Joined, tie, join, free, count-loop}
 use Rattle.model.specs.Sound.{Mutual}
 use Rattle.model.specs.Proofs.Pool.{in-range}
 
@@ -31,11 +31,11 @@ wires a b s F G e f =
     ∙ ap (λ H. fasten (F .end) (H .end) (with-names (H .names) s)) f
 
 joins-ends : (x y : ℕ) (s : St) → ¬ (x ≡ y)
-    → fasten (name x) (name y) s ≡ moved (with-names (joined x y (s .names)) s)
+    → fasten (name x) (name y) s ≡ moved (join x y s)
 joins-ends x y s n = go (ℕ-discrete x y)
   where
     go : (d : Dec (x ≡ y))
-        → elim d as (λ w. Answer) [ yes p ↦ looped x s | no p ↦ moved (with-names (joined x y (s .names)) s) ] ≡ moved (with-names (joined x y (s .names)) s)
+        → elim d as (λ w. Answer) [ yes p ↦ looped x s | no p ↦ moved (join x y s) ] ≡ moved (join x y s)
     go (yes p) = absurd (n p)
     go (no p) = refl
 
@@ -43,18 +43,18 @@ loops-end : (x : ℕ) (s : St) → fasten (name x) (name x) s ≡ looped x s
 loops-end x s = go (ℕ-discrete x x)
   where
     go : (d : Dec (x ≡ x))
-        → elim d as (λ w. Answer) [ yes p ↦ looped x s | no p ↦ moved (with-names (joined x x (s .names)) s) ] ≡ looped x s
+        → elim d as (λ w. Answer) [ yes p ↦ looped x s | no p ↦ moved (join x x s) ] ≡ looped x s
     go (yes p) = refl
     go (no p) = absurd (p refl)
 
 -- A loop counted, and one that cannot be.
 pub counted : (x : ℕ) (s : St) → s .loops < loops-max
-    → looped x s ≡ moved (with-loops (suc (s .loops)) (with-names (set (s .names) x 0) s))
+    → looped x s ≡ moved (count-loop (free x s))
 counted x s h = go (decLt (s .loops) loops-max)
   where
     go : (d : Dec (s .loops < loops-max))
-        → elim d as (λ w. Answer) [ yes k ↦ moved (with-loops (suc (s .loops)) (with-names (set (s .names) x 0) s)) | no k ↦ refused 13 ]
-        ≡ moved (with-loops (suc (s .loops)) (with-names (set (s .names) x 0) s))
+        → elim d as (λ w. Answer) [ yes k ↦ moved (count-loop (free x s)) | no k ↦ refused 13 ]
+        ≡ moved (count-loop (free x s))
     go (yes k) = refl
     go (no k) = absurd (k h)
 
@@ -62,7 +62,7 @@ pub uncounted : (x : ℕ) (s : St) → loops-max ≤ s .loops → looped x s ≡
 uncounted x s h = go (decLt (s .loops) loops-max)
   where
     go : (d : Dec (s .loops < loops-max))
-        → elim d as (λ w. Answer) [ yes k ↦ moved (with-loops (suc (s .loops)) (with-names (set (s .names) x 0) s)) | no k ↦ refused 13 ] ≡ refused 13
+        → elim d as (λ w. Answer) [ yes k ↦ moved (count-loop (free x s)) | no k ↦ refused 13 ] ≡ refused 13
     go (yes k) = absurd (omega arith)
     go (no k) = refl
 
@@ -75,22 +75,22 @@ module _ (s : St) (m : Mutual (s .names)) (x : ℕ) where
   to-names e q = e ∙ ap (λ w. moved (with-names w s)) q
 
   -- x = U
-  pub bare-row : (u : ℕ) → getD l x 0 ≡ 1 → wire (name x) (cell u) s ≡ moved (with-names (set l x (bound (cell u))) s)
+  pub bare-row : (u : ℕ) → Bare s x → wire (name x) (cell u) s ≡ moved (tie x u s)
   bare-row u e = wires (name x) (cell u) s (record { end = name x; names = l }) (record { end = cell u; names = l }) (follow-bare l x e) refl
 
-  pub joined-row : (u y : ℕ) → getD l x 0 ≡ bound (name y)
-      → wire (name x) (cell u) s ≡ moved (with-names (set (set l x 0) y (bound (cell u))) s)
+  pub joined-row : (u y : ℕ) → Joined s x y
+      → wire (name x) (cell u) s ≡ moved (tie y u (free x s))
   joined-row u y e =
       to-names
       (wires (name x) (cell u) s (record { end = name y; names = drop-bond x (name y) l }) (record { end = cell u; names = drop-bond x (name y) l }) (follow-bound l x (name y) e) refl)
       (set-set (set l x 0) y 1 (bound (cell u)))
 
-  pub tied-row : (u t : ℕ) → getD l x 0 ≡ bound (cell t)
-      → wire (name x) (cell u) s ≡ moved (put (cell t := cell u) (with-names (set l x 0) s))
+  pub tied-row : (u t : ℕ) → Tied s x t
+      → wire (name x) (cell u) s ≡ moved (put (cell t := cell u) (free x s))
   tied-row u t e = wires (name x) (cell u) s (record { end = cell t; names = set l x 0 }) (record { end = cell u; names = set l x 0 }) (follow-bound l x (cell t) e) refl
 
   -- x = x, and x = y with x joined to y
-  pub loop-row : getD l x 0 ≡ 1 → wire (name x) (name x) s ≡ looped x s
+  pub loop-row : Bare s x → wire (name x) (name x) s ≡ looped x s
   loop-row e = wires (name x) (name x) s (record { end = name x; names = l }) (record { end = name x; names = l }) (follow-bare l x e) (follow-bare l x e) ∙ loops-end x s
 
   module _ (y : ℕ) where
@@ -104,7 +104,7 @@ module _ (s : St) (m : Mutual (s .names)) (x : ℕ) where
     other-words : (v w : ℕ) → getD l x 0 ≡ v → getD l y 0 ≡ w → ¬ (v ≡ w) → ¬ (x ≡ y)
     other-words v w e f n q = n (sym e ∙ ap (λ i. getD l i 0) q ∙ f)
 
-    pub loop-joined-row : getD l x 0 ≡ bound (name y)
+    pub loop-joined-row : Joined s x y
         → wire (name x) (name y) s ≡ looped y (with-names (set (set l x 0) y 1) s)
     loop-joined-row e =
         wires (name x) (name y) s (record { end = name y; names = drop-bond x (name y) l }) (record { end = name y; names = drop-bond x (name y) l }) (follow-bound l x (name y) e) (follow-bare (drop-bond x (name y) l) y at-y)
@@ -114,12 +114,12 @@ module _ (s : St) (m : Mutual (s .names)) (x : ℕ) where
         at-y = getD-set-same (set l x 0) y 1 0 (omega (arith, length-set l x 0, in-range l y (omega (arith, (m x y e) .0))))
 
     -- x = y otherwise, by the rows of document 001, Figure 2
-    pub row-0-0 : getD l x 0 ≡ 1 → getD l y 0 ≡ 1 → ¬ (x ≡ y)
-        → wire (name x) (name y) s ≡ moved (with-names (joined x y l) s)
+    pub row-0-0 : Bare s x → Bare s y → ¬ (x ≡ y)
+        → wire (name x) (name y) s ≡ moved (join x y s)
     row-0-0 e f n = wires (name x) (name y) s (record { end = name x; names = l }) (record { end = name y; names = l }) (follow-bare l x e) (follow-bare l y f) ∙ joins-ends x y s n
 
-    pub row-0-c : (w : ℕ) → getD l x 0 ≡ 1 → getD l y 0 ≡ bound (name w)
-        → wire (name x) (name y) s ≡ moved (with-names (joined x w (set l y 0)) s)
+    pub row-0-c : (w : ℕ) → Bare s x → Joined s y w
+        → wire (name x) (name y) s ≡ moved (join x w (free y s))
     row-0-c w e f =
         to-names
         (wires (name x) (name y) s (record { end = name x; names = l }) (record { end = name w; names = drop-bond y (name w) l }) (follow-bare l x e) (follow-bound l y (name w) f)
@@ -129,12 +129,12 @@ module _ (s : St) (m : Mutual (s .names)) (x : ℕ) where
         apart : ¬ (x ≡ w)
         apart q = omega (arith, e, (m y w f) .0, ap (λ i. getD l i 0) q)
 
-    pub row-0-e : (u : ℕ) → getD l x 0 ≡ 1 → getD l y 0 ≡ bound (cell u)
-        → wire (name x) (name y) s ≡ moved (with-names (set (set l y 0) x (bound (cell u))) s)
+    pub row-0-e : (u : ℕ) → Bare s x → Tied s y u
+        → wire (name x) (name y) s ≡ moved (tie x u (free y s))
     row-0-e u e f = wires (name x) (name y) s (record { end = name x; names = l }) (record { end = cell u; names = set l y 0 }) (follow-bare l x e) (follow-bound l y (cell u) f)
 
-    pub row-c-0 : (z : ℕ) → getD l x 0 ≡ bound (name z) → getD l y 0 ≡ 1
-        → wire (name x) (name y) s ≡ moved (with-names (joined z y (set l x 0)) s)
+    pub row-c-0 : (z : ℕ) → Joined s x z → Bare s y
+        → wire (name x) (name y) s ≡ moved (join z y (free x s))
     row-c-0 z e f =
         to-names
         (wires
@@ -151,8 +151,8 @@ module _ (s : St) (m : Mutual (s .names)) (x : ℕ) where
         apart : ¬ (z ≡ y)
         apart q = omega (arith, f, (m x z e) .0, ap (λ i. getD l i 0) q)
 
-    pub row-c-c : (z w : ℕ) → getD l x 0 ≡ bound (name z) → getD l y 0 ≡ bound (name w) → ¬ (x ≡ y) → ¬ (z ≡ y)
-        → wire (name x) (name y) s ≡ moved (with-names (joined z w (set (set l x 0) y 0)) s)
+    pub row-c-c : (z w : ℕ) → Joined s x z → Joined s y w → ¬ (x ≡ y) → ¬ (z ≡ y)
+        → wire (name x) (name y) s ≡ moved (join z w (free y (free x s)))
     row-c-c z w e f n k =
         to-names
         (wires
@@ -176,8 +176,8 @@ module _ (s : St) (m : Mutual (s .names)) (x : ℕ) where
         apart : ¬ (z ≡ w)
         apart q = n (omega (arith, (m x z e) .0, (m y w f) .0, ap (λ i. getD l i 0) q))
 
-    pub row-c-e : (z u : ℕ) → getD l x 0 ≡ bound (name z) → getD l y 0 ≡ bound (cell u)
-        → wire (name x) (name y) s ≡ moved (with-names (set (set (set l x 0) y 0) z (bound (cell u))) s)
+    pub row-c-e : (z u : ℕ) → Joined s x z → Tied s y u
+        → wire (name x) (name y) s ≡ moved (tie z u (free y (free x s)))
     row-c-e z u e f =
         to-names
         (wires
@@ -193,8 +193,8 @@ module _ (s : St) (m : Mutual (s .names)) (x : ℕ) where
         apart : ¬ (z ≡ y)
         apart q = omega (arith, f, (m x z e) .0, ap (λ i. getD l i 0) q)
 
-    pub row-e-0 : (t : ℕ) → getD l x 0 ≡ bound (cell t) → getD l y 0 ≡ 1
-        → wire (name x) (name y) s ≡ moved (with-names (set (set l x 0) y (bound (cell t))) s)
+    pub row-e-0 : (t : ℕ) → Tied s x t → Bare s y
+        → wire (name x) (name y) s ≡ moved (tie y t (free x s))
     row-e-0 t e f =
         wires
         (name x)
@@ -205,8 +205,8 @@ module _ (s : St) (m : Mutual (s .names)) (x : ℕ) where
         (follow-bound l x (cell t) e)
         (follow-bare (set l x 0) y (off 0 (other-words (bound (cell t)) 1 e f (λ q. omega arith)) ∙ f))
 
-    pub row-e-c : (t w : ℕ) → getD l x 0 ≡ bound (cell t) → getD l y 0 ≡ bound (name w)
-        → wire (name x) (name y) s ≡ moved (with-names (set (set (set l x 0) y 0) w (bound (cell t))) s)
+    pub row-e-c : (t w : ℕ) → Tied s x t → Joined s y w
+        → wire (name x) (name y) s ≡ moved (tie w t (free y (free x s)))
     row-e-c t w e f =
         to-names
         (wires
@@ -219,8 +219,8 @@ module _ (s : St) (m : Mutual (s .names)) (x : ℕ) where
         (follow-bound (set l x 0) y (name w) (off 0 (other-words (bound (cell t)) (bound (name w)) e f (λ q. omega arith)) ∙ f)))
         (set-set (set (set l x 0) y 0) w 1 (bound (cell t)))
 
-    pub row-e-e : (t u : ℕ) → getD l x 0 ≡ bound (cell t) → getD l y 0 ≡ bound (cell u) → ¬ (x ≡ y)
-        → wire (name x) (name y) s ≡ moved (put (cell t := cell u) (with-names (set (set l x 0) y 0) s))
+    pub row-e-e : (t u : ℕ) → Tied s x t → Tied s y u → ¬ (x ≡ y)
+        → wire (name x) (name y) s ≡ moved (put (cell t := cell u) (free y (free x s)))
     row-e-e t u e f n =
         wires
         (name x)

@@ -7,11 +7,12 @@ use native.Mathlib.Omega.{arith}
 use lib.ListN.{length}
 use Rattle.parts.specs.Limits.{names-max, waiting-max, loops-max}
 use Rattle.parts.specs.Sides.{Side, name, cell, Pair, _:=_}
-use Rattle.model.specs.State.{St, equation, used, with-names, with-loops}
+use Rattle.model.specs.State.{St, equation, used, with-names}
 use Rattle.model.specs.Table.{Entry, Table, Found, none, straight, turned}
-use Rattle.model.specs.Step.{Answer, moved, refused, taken-out, held, fired, Room, rule-of}
-use Rattle.model.specs.Stepped.{room, fire-if, meet, looped, fasten, act, stepped}
-use Rattle.model.specs.Step.{joined, place, rule-at, picked}
+use Rattle.model.specs.Step.{Answer, moved, refused, taken-out, held, fired, rule-of}
+use Rattle.model.specs.Rows.{join, free, count-loop}
+use Rattle.model.specs.Stepped.{Room, room, fire-if, meet, looped, fasten, act, stepped}
+use Rattle.model.specs.Step.{place, rule-at, picked}
 use Rattle.model.specs.Follow.{follow, drops}
 use Rattle.model.specs.Run.{run, ran, stopped}
 use Rattle.model.specs.Sound.{book, Sound, meaning}
@@ -46,7 +47,7 @@ loop-answers : (x : ℕ) (st : St) → MovedOr13 (looped x st)
 loop-answers x st = go (decLt (st .loops) loops-max)
   where
     go : (d : Dec (st .loops < loops-max))
-        → MovedOr13 (elim d [ yes h ↦ moved (with-loops (suc (st .loops)) (with-names (lib.ListN.set (st .names) x 0) st)) | no h ↦ refused 13 ])
+        → MovedOr13 (elim d [ yes h ↦ moved (count-loop (free x st)) | no h ↦ refused 13 ])
     go (yes h) = tt
     go (no h) = refl
 
@@ -54,7 +55,7 @@ fasten-answers : (s t : Side) (st : St) → MovedOr13 (fasten s t st)
 fasten-answers (name x) (name y) st = go (ℕ-discrete x y)
   where
     go : (d : Dec (x ≡ y))
-        → MovedOr13 (elim d [ yes p ↦ looped x st | no p ↦ moved (with-names (joined x y (st .names)) st) ])
+        → MovedOr13 (elim d [ yes p ↦ looped x st | no p ↦ moved (join x y st) ])
     go (yes p) = loop-answers x st
     go (no p) = tt
 fasten-answers (name x) (cell c) st = tt

@@ -15,8 +15,8 @@ use Rattle.parts.specs.Sides.{Side, name, cell, Pair, _:=_}
 use Rattle.model.specs.State.{St, equation, unpack, pushed, pulled, used, listed}
 use Rattle.model.specs.Table.{Cell, Entry, Table, Found, none, straight, turned, find, no-entry, entry}
 use Rattle.model.specs.Proofs.Decisions.{both}
-use Rattle.model.specs.Step.{picked, Answer, moved, refused, taken-out, held, fired, Room}
-use Rattle.model.specs.Stepped.{room, fire-if, meet, act, stepped}
+use Rattle.model.specs.Step.{picked, Answer, moved, refused, taken-out, held, fired}
+use Rattle.model.specs.Stepped.{Room, room, fire-if, meet, act, stepped}
 use Rattle.model.specs.Step.{symbol-of, rule-of, place, rule-for, rule-at}
 use Rattle.model.specs.Reading.{Reads, by-cell, ReadsAll, no-pairs, pairs, bonds, pool-of}
 use Rattle.model.specs.Sound.{Mutual, live, book, Sound, Held, AllHeld, mem-of, meaning, sides}

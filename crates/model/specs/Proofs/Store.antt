@@ -373,15 +373,6 @@ index c (x ∷ l) h = go (δ-cases c x) (λ k. index c l k)
     go (inl e) f = record { at = 0; inside = omega arith; is = sym (e .0) }
     go (inr e) f = let k = f (omega (arith, e .1)) in record { at = suc (k .at); inside = omega (arith, k .inside); is = k .is }
 
-pub from-count : (j n z : ℕ) → 0 < count z (from j n) → (j ≤ z) × (z < j + n)
-from-count j ℕ.zero z h = absurd (omega arith)
-from-count j (ℕ.suc n) z h = go (δ-cases z j) (λ k. from-count (suc j) n z k)
-  where
-    go : ((z ≡ j) × (δ z j ≡ 1)) ⊎ ((¬ (z ≡ j)) × (δ z j ≡ 0))
-        → (0 < count z (from (suc j) n) → (suc j ≤ z) × (z < suc j + n)) → (j ≤ z) × (z < j + suc n)
-    go (inl e) f = (omega (arith, e .0), omega (arith, e .0))
-    go (inr e) f = let k = f (omega (arith, e .1)) in (omega (arith, k .0), omega (arith, k .1))
-
 -- Four zeros.
 pub zero-here : (l : List ℕ) (c k : ℕ) → 4 * c + 4 ≤ length l → k < 4 → getD (zero-cell c l) (4 * c + k) 0 ≡ 0
 zero-here l c k h j = sets-at (0 ∷ 0 ∷ 0 ∷ 0 ∷ []) l (4 * c) (4 * c + k) k refl j h ∙ four k

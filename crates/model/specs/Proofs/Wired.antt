@@ -17,12 +17,11 @@ use Rattle.model.specs.Table.{Table, Found}
 use Rattle.model.specs.Step.{Answer, moved, refused, put}
 use Rattle.model.specs.Follow.{Followed, drop-bond, follow-by, follow, Coms, drops-of}
 use Rattle.model.specs.Stepped.{looped, fasten, wire}
-use Rattle.model.specs.Step.{joined}
 use Rattle.model.specs.Reading.{bond-at, bonds, pool-of}
 use Rattle.model.specs.Sound.{Mutual, book, Sound, meaning, mem-of, live, sides}
 use Rattle.model.specs.SoundTable.{SoundTable}
 use Rattle.model.specs.Proofs.Bonds.{_≃_, ≃-refl, ≃-sym, ≃-of, bonds-set, bonds-tie, bonds-join, mutual-set}
-use Rattle.model.specs.Proofs.Bonds.{mutual-join}
+use Rattle.model.specs.Proofs.Bonds.{mutual-join, joined}
 use Rattle.model.specs.Proofs.Facts.{used-set, used-alike, unpack-pushed}
 use Rattle.model.specs.Proofs.Frame.{Framed, frame-loops, sound-of, frame-put, frame-names}
 use Rattle.model.specs.Proofs.Moves.{Outcome, coms-append, coms-cells, coms-interactions, coms-cost}

@@ -16,7 +16,8 @@ use Rattle.parts.specs.Codes.{side-code}
 use Rattle.model.specs.State.{St, used, from}
 use Rattle.model.specs.Table.{Cell, Entry, Table, no-cell, entry}
 use Rattle.model.specs.Step.{inst, inst-cell, new-cells, new-names, quad, env, alloc, write-symbols}
-use Rattle.model.specs.Step.{write-arguments, zero-cell, copies, Room, symbol-of}
+use Rattle.model.specs.Step.{write-arguments, zero-cell, copies, symbol-of}
+use Rattle.model.specs.Stepped.{Room}
 use Rattle.model.specs.Sound.{width, cell-at, live, mem-of}
 use Rattle.model.specs.SoundTable.{SoundEntry, SoundTable}
 use Rattle.model.specs.Proofs.Cellwork.{length₂, args-length₂, live₂, used₁, used₂, copied, kept₂, zeros₂}
@@ -25,7 +26,8 @@ use Rattle.model.specs.Proofs.Frame.{Framed}
 use Rattle.model.specs.Proofs.Fresh.{cell-by}
 use Rattle.model.specs.Proofs.Pool.{in-range}
 use Rattle.model.specs.Proofs.Store.{Free, lowest-free, lowest-many, count-getD, getD-apart, map-getD}
-use Rattle.model.specs.Proofs.Store.{Small, from-count}
+use Rattle.model.specs.Proofs.Store.{Small}
+use Rattle.model.specs.Proofs.Froms.{from-count}
 
 module _ {T : Table} (h : SoundTable T) (st : St) (f : Framed T st) (i : ℕ) (listed-rule : i < length (T .rules)) (a b : ℕ) (two : (c : ℕ) → δ c a + δ c b ≤ live (st .symbols) c) (room : Room (entry T i) st) where
   abbrev ar : List ℕ

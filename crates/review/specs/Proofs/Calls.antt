@@ -5,7 +5,7 @@ use mathlib.Core.List.{List}
 use mathlib.Core.Logic.{_↔_, inl, inr}
 use lib.ListN.{length}
 use Rattle.parts.specs.Limits.{budget-max}
-use Rattle.model.specs.Step.{moved, place, taken-out, picked}
+use Rattle.model.specs.Step.{place, taken-out, picked}
 use Rattle.model.specs.Rows.{NoRoom, Row}
 use Rattle.model.specs.StepTable.{step-table}
 use Rattle.state.specs.Layout.{view}
@@ -29,7 +29,7 @@ pub step-made : {w v v′ : List ℕ} {p : ℕ}
     → StepCall w v p Step.Moved v′
     ↔ (BothSound w v
     × (p < (view v) .waiting .used)
-    × Row (under w) (view v) (taken-out (place (view v) p) (view v)) (picked (view v) p) (moved (view v′)))
+    × Row (under w) (taken-out (place (view v) p) (view v)) (picked (view v) p) (view v′))
 step-made {w} {v} {v′} {p} = (
   λ c. let k = step-went c in (k .0, k .1, step-row c),
   λ (h, o, r).

@@ -19,6 +19,8 @@ use Rattle.model.specs.Table.{Table}
 use Rattle.model.specs.Reading.{ReadsAll}
 use Rattle.model.specs.Sound.{Sound, mem-of, width}
 use Rattle.model.specs.Sound as Machine
+use Rattle.model.specs.Proofs.Froms.{from-in}
+use Rattle.model.specs.Proofs.Sources.{Source, Sources, one-source, one-source-all}
 use Rattle.texts.specs.Bytes.{Word, In}
 use Rattle.texts.specs.Terms.{Term, Terms, term, nil, cons, nodes, wordsOf}
 use Rattle.texts.specs.Books.{Agent, Equation, Net, declared, sides, cellsOf, namesOf, netTerms}
@@ -26,9 +28,7 @@ use Rattle.texts.specs.Coded.{packed, symbolOf}
 use Rattle.texts.specs.Meaning.{tree, trees, treeEquations}
 use Rattle.texts.specs.Proofs.Linear.{words, wordsIn, words-all}
 use Rattle.texts.specs.Proofs.Places.{in-keep}
-use Rattle.texts.specs.Proofs.Rows.{from-in}
 use Rattle.review.specs.Loads.{FirstMet, LoadedSo}
-use Rattle.review.specs.Proofs.Sources.{Source, Sources, one-source, one-source-all}
 
 -- Two ways to number words by first meeting, each with different numbers for different words, are one.
 module _ (f g : Word → ℕ) (all : List Word)
@@ -220,11 +220,11 @@ module _ {ags : List Agent} {T : Table} {n : Net} {s s′ : St}
       (λ w m e. same-number w (name-in ags (netTerms n) w
       (subst (In w) (sym (words-both (n .face) (sides (n .equations)))) (Memᴰ·append-right (wordsIn (packed (n .face))) m)) e))
 
-  face-source : Source (mem-of T s) (mem-of T s′) (Machine.sides (s .face)) (Machine.sides (s′ .face)) (from 0 (length (cellsOf ags (n .face))))
-  face-source = one-source (A .face) (B .face) face-terms refl
+  face-source : Source (mem-of T s) (mem-of T s′) (Machine.sides (s .face)) (Machine.sides (s′ .face)) (from 0 (length (cellsOf ags (n .face)))) [] []
+  face-source = one-source (A .face) (B .face) face-terms [] [] refl
 
   waiting-source : Sources (mem-of T s) (mem-of T s′) (listed (s .waiting)) (listed (s′ .waiting))
-      (from (length (cellsOf ags (n .face))) (length (cellsOf ags (sides (n .equations)))))
+      (from (length (cellsOf ags (n .face))) (length (cellsOf ags (sides (n .equations))))) [] []
   waiting-source =
       one-source-all
       (A .waiting)
@@ -232,6 +232,8 @@ module _ {ags : List Agent} {T : Table} {n : Net} {s s′ : St}
       (λ m. ReadsAll (mem-of T s′) (listed (s′ .waiting)) m (from (length (cellsOf ags (n .face))) (length (cellsOf ags (sides (n .equations))))))
       (sym waiting-terms)
       (B .waiting))
+      []
+      []
       refl
 
   same-cell : (c : ℕ) → c < length (cellsOf ags (netTerms n)) → mem-of T s c ≡ mem-of T s′ c

@@ -1,6 +1,6 @@
 -- In which case a call of step or run has which answer, and what it leaves.
 use Prim.Native.Nat.{ℕ, _≤_, _<_}
-use mathlib.Core.Path.{_≡_, refl, sym, ap, subst, _∙_}
+use mathlib.Core.Path.{_≡_, refl, sym, ap, _∙_}
 use mathlib.Core.List.{List}
 use mathlib.Core.Logic.{_↔_, _⊎_, inl, inr}
 use native.Mathlib.Decide.{decLt}
@@ -159,19 +159,13 @@ step-sound-after {w} {v} {p} {v′} c =
     let k = step-went c in
     both-of w v′ (table-given (k .0)) (step-sound (sound-table (k .0)) (sound-state (k .0)) p (k .2))
 
--- A step that was made is a row of the step table, and no row has another state.
+-- A step that was made is a row of the step table.
 module _ {w v : List ℕ} {p : ℕ} {v′ : List ℕ} (c : StepCall w v p Step.Moved v′) where
-  abbrev Rows : Answer → Type 0
-  Rows = Row (under w) (view v) (taken-out (place (view v) p) (view v)) (picked (view v) p)
+  abbrev Rows : St → Type 0
+  Rows = Row (under w) (taken-out (place (view v) p) (view v)) (picked (view v) p)
 
-  pub step-row : Rows (moved (view v′))
-  step-row =
-      let k = step-went c in subst Rows (k .2) (every-step (sound-state (k .0)) p (k .1))
-
-  pub row-step : {s : St} → Rows (moved s) → view v′ ≡ s
-  row-step {s} r =
-      let k = step-went c in
-      ap (λ a. elim a [ moved t ↦ t | refused n ↦ s ]) (sym (k .2) ∙ step-table (sound-state (k .0)) p (k .1) r)
+  pub step-row : Rows (view v′)
+  step-row = let k = step-went c in every-step (sound-state (k .0)) p (k .1) (k .2)
 
 module _ (w v : List ℕ) (budget : ℕ) where
   -- A run that is not refused tells why it stopped, and the interactions made.

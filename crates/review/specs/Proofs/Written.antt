@@ -11,13 +11,13 @@ use Rattle.calculus.specs.Terms.{Conf}
 use Rattle.model.specs.Table.{Table, no-entry, entry}
 use Rattle.model.specs.Sound.{Means, book}
 use Rattle.model.specs.Proofs.Books as Books
+use Rattle.model.specs.Proofs.Sources.{one-entry}
 use Rattle.texts.specs.Bytes.{In}
 use Rattle.texts.specs.Books.{Agent, Rule, Book}
 use Rattle.texts.specs.Coded.{template, tableOf, machine}
 use Rattle.texts.specs.Meaning.{meantRule}
 use Rattle.texts.specs.Good.{GoodBook}
 use Rattle.texts.specs.Main as Texts
-use Rattle.review.specs.Proofs.Sources.{one-entry}
 use Rattle.review.specs.Rulebook.{Written}
 
 -- A place in a list of rules.

@@ -20,6 +20,7 @@ use Rattle.model.specs.Table as Model
 use Rattle.model.specs.State.{from}
 use Rattle.model.specs.Sound.{first-new, InOrder}
 use Rattle.model.specs.SoundTable.{SoundEntry}
+use Rattle.model.specs.Proofs.Froms.{from-in, from-count}
 use Rattle.texts.specs.Bytes.{all, any, In}
 use Rattle.texts.specs.Books.{Agent}
 use Rattle.texts.specs.Coded.{second-from, new-from, arityAt, unpaired}
@@ -29,7 +30,7 @@ use Rattle.texts.specs.Proofs.Linear.{tally-append}
 use Rattle.texts.specs.Proofs.Clauses.{to-standing, of-standing, Clauses, clauses-of, tested, Place, on-left, on-right, is-new, place, of-place}
 use Rattle.texts.specs.Proofs.CellReading.{Read, walk-reads, walked, Equations, equations, Sidewise, sidewise, name-count, cell-count}
 use Rattle.texts.specs.Proofs.Wires.{pairOf, eqnOf, wires-of, level, unchanged}
-use Rattle.texts.specs.Proofs.Rows.{from-in, from-where, in-order, final, numbered-of, final-most, final-least, all-at, at-all, counted-in, in-counted}
+use Rattle.texts.specs.Proofs.Rows.{in-order, final, numbered-of, final-most, final-least, all-at, at-all, counted-in, in-counted}
 use Rattle.texts.specs.Proofs.Standing.{right-names, counts, Where, inside, outside, find, often, place-counts, out-counts, once, wired}
 
 module _ (ags : List Agent) (few : (n : ℕ) → arityAt ags n ≤ arity-max) (T : Model.Table) (many : length (T .arities) ≡ length ags)
@@ -210,7 +211,7 @@ module _ (ags : List Agent) (few : (n : ℕ) → arityAt ags n ≤ arity-max) (T
     side-ok (cell d) m =
         let k = counted-in (cell d) (allCodes e) m in
         let z = cell-tally (steps .0) d in
-        let w = from-where (length (e .cells)) 0 d (omega (arith, k, z)) in
+        let w = from-count 0 (length (e .cells)) d (omega (arith, k, z)) in
         let l = w .1 in
         lt-ltb d (length (e .cells)) (omega (arith, l))
 

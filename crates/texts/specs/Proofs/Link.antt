@@ -34,7 +34,7 @@ use Rattle.texts.specs.Proofs.Tables.{arity-is, test-machine, machine-te
 use Rattle.texts.specs.Proofs.Nets.{rule-means, net-reads}
 use Rattle.texts.specs.Good.{GoodBook, GoodNet, SoundTable}
 use Rattle.texts.specs.Conditions.{SpeltAgents}
-use Rattle.texts.specs.Proofs.Rows.{from-in, from-out}
+use Rattle.model.specs.Proofs.Froms.{from-in, from-out}
 
 pub sound-exact : (t : Table) → SoundTable t ↔ (SpeltAgents (t .agents) × Machine.SoundTable (machine t))
 sound-exact t = (λ h. test-machine t (test-sound t .1 h), λ p. test-sound t .0 (machine-test t (p .0) (p .1)))

@@ -16,6 +16,7 @@ use Rattle.model.specs.Table.{Cell, arity, no-cell}
 use Rattle.model.specs.Reading.{Reads, ReadsAll}
 use Rattle.model.specs.Table as Model
 use Rattle.model.specs.NetReads.{NetReads}
+use Rattle.model.specs.Proofs.Froms.{from-append, from-in, from-out}
 use Rattle.model.specs.State.{from}
 use Rattle.model.specs.Sound.{InOrder, Means}
 use Rattle.model.specs.SoundTable.{Declared}
@@ -34,13 +35,13 @@ use Rattle.texts.specs.Proofs.NetSound.{SoundNet, net-sound}
 use Rattle.texts.specs.Proofs.Loads.{allSides, ok, sides-are, load-count, name-twice, cells-append}
 use Rattle.texts.specs.Proofs.TableSound.{load-sound}
 use Rattle.texts.specs.Proofs.CellReading.{walked, name-count, sidewise, Held}
-use Rattle.texts.specs.Proofs.Trees.{from-append, held-left, held-right, read-terms, read-equations}
+use Rattle.texts.specs.Proofs.Trees.{held-left, held-right, read-terms, read-equations}
 use Rattle.texts.specs.Good.{GoodNet}
 use Rattle.texts.specs.Proofs.RuleSound.{SoundRule}
-use Rattle.texts.specs.Proofs.Rows.{in-order, all-at, from-in, from-out}
+use Rattle.texts.specs.Proofs.Rows.{in-order, all-at}
 
 -- The number of cells, counted in words and in terms.
-cells-are : (ags : List Agent) (ts : List Term) → tally (declared ags) (wordsIn (packed ts)) ≡ length (cellsOf ags ts)
+pub cells-are : (ags : List Agent) (ts : List Term) → tally (declared ags) (wordsIn (packed ts)) ≡ length (cellsOf ags ts)
 unfolding cellsOf tally
 cells-are ags ts = rw (words-all ts)
 
@@ -93,17 +94,17 @@ module _ (ags : List Agent) (T : Model.Table) (arities : (s : ℕ) → arity T s
       }
 
 -- A net.
-module _ (ags : List Agent) (T : Model.Table) (many : length (T .arities) ≡ length ags) (arities : (s : ℕ) → arity T s ≡ arityAt ags s) (n : Net) (g : GoodNet ags n) where
+module _ (ags : List Agent) (n : Net) (g : GoodNet ags n) where
   abbrev s : SoundNet ags n
   s = net-sound ags n g
 
   abbrev number : Word → ℕ
   number = netNumber ags n
 
-  abbrev cells : List Cell
+  abbrev pub cells : List Cell
   cells = cellsFrom ags number 0 (packed (netTerms n))
 
-  abbrev store : ℕ → Cell
+  abbrev pub store : ℕ → Cell
   store m = getD cells m no-cell
 
   abbrev first : ℕ
@@ -143,23 +144,23 @@ module _ (ags : List Agent) (T : Model.Table) (many : length (T .arities) ≡ le
   split-held : (j : ℕ) → j < length (front ++ back) → store (0 + j) ≡ getD (front ++ back) j no-cell
   split-held = subst (λ l. (j : ℕ) → j < length l → store (0 + j) ≡ getD l j no-cell) split-cells kept
 
-  abbrev fore : List ℕ
+  abbrev pub fore : List ℕ
   fore = from 0 (tally (declared ags) (wordsIn (packed (n .face))))
 
-  abbrev aft : List ℕ
+  abbrev pub aft : List ℕ
   aft = from first (tally (declared ags) (wordsIn (packed (sides (n .equations)))))
 
-  read-face : Reads store ((load ags n) .face) ((meantNet ags n) .face) fore
+  pub read-face : Reads store ((load ags n) .face) ((meantNet ags n) .face) fore
   unfolding load meantNet
   read-face = read-terms store ags number (packed (n .face)) 0 (bare-parts .0) (held-left store 0 front back split-held)
 
-  read-rest : ReadsAll store ((load ags n) .equations) ((meantNet ags n) .eqs) aft
+  pub read-rest : ReadsAll store ((load ags n) .equations) ((meantNet ags n) .eqs) aft
   unfolding load meantNet
   read-rest =
       let z : 0 + length front ≡ first = omega (arith, front-length) in
       read-equations store ags number (n .equations) first (bare-parts .1) (subst (λ k. Held store k back) z (held-right store 0 front back split-held))
 
-  cell-total : length cells ≡ tally (declared ags) (wordsIn (packed (n .face))) + tally (declared ags) (wordsIn (packed (sides (n .equations))))
+  pub cell-total : length cells ≡ tally (declared ags) (wordsIn (packed (n .face))) + tally (declared ags) (wordsIn (packed (sides (n .equations))))
   cell-total =
       let p = ap length split-cells in
       let q = length-append front back in
@@ -211,7 +212,7 @@ module _ (ags : List Agent) (T : Model.Table) (many : length (T .arities) ≡ le
         tally-none (λ w. false) (namesOf ags (netTerms n)) (λ w. refl),
       )
 
-  loaded-names : (load ags n) .names ≡ length ds
+  pub loaded-names : (load ags n) .names ≡ length ds
   unfolding load
   loaded-names = refl
 
@@ -225,18 +226,21 @@ module _ (ags : List Agent) (T : Model.Table) (many : length (T .arities) ≡ le
           let e = loaded-names in
           beyond x (omega (arith, l, e)) ∙ omega (arith, c)
 
-  loaded-cells : (load ags n) .cells ≡ cells
+  pub loaded-cells : (load ags n) .cells ≡ cells
   unfolding load
   loaded-cells = refl
 
-  cell-declared : (c : ℕ) → c < length cells → Declared T (store c)
+-- Over a table with these agents.
+module _ (ags : List Agent) (T : Model.Table) (many : length (T .arities) ≡ length ags) (arities : (s : ℕ) → arity T s ≡ arityAt ags s) (n : Net) (g : GoodNet ags n) where
+  cell-declared : (c : ℕ) → c < length (cells ags n g) → Declared T (store ags n g c)
   unfolding cellOk
   cell-declared c l =
-      let k : all (cellOk ags) cells ≡ true = subst (λ d. all (cellOk ags) d ≡ true) loaded-cells ((load-sound ags n g) .cells-ok) in
-      let p = both (ltb ((store c) .symbol) (length ags)) (eqb (length ((store c) .args)) (arityAt ags ((store c) .symbol))) (all-at (cellOk ags) no-cell cells k c l) in
+      let d = store ags n g c in
+      let k : all (cellOk ags) (cells ags n g) ≡ true = subst (λ l. all (cellOk ags) l ≡ true) (loaded-cells ags n g) ((load-sound ags n g) .cells-ok) in
+      let p = both (ltb (d .symbol) (length ags)) (eqb (length (d .args)) (arityAt ags (d .symbol))) (all-at (cellOk ags) no-cell (cells ags n g) k c l) in
       record {
-        symbol = rw many (ltb-true ((store c) .symbol) (length ags) (p .0));
-        args = eqb-true (length ((store c) .args)) (arityAt ags ((store c) .symbol)) (p .1) ∙ sym (arities ((store c) .symbol));
+        symbol = rw many (ltb-true (d .symbol) (length ags) (p .0));
+        args = eqb-true (length (d .args)) (arityAt ags (d .symbol)) (p .1) ∙ sym (arities (d .symbol));
       }
 
   -- what the load theorem asks
@@ -249,12 +253,12 @@ module _ (ags : List Agent) (T : Model.Table) (many : length (T .arities) ≡ le
       let c = z .few-cells in
       let d = z .few-names in
       record {
-        c₀ = fore;
-        c₁ = aft;
-        face = read-face;
-        equations = read-rest;
-        once = cells-met;
-        twice = twice;
+        c₀ = fore ags n g;
+        c₁ = aft ags n g;
+        face = read-face ags n g;
+        equations = read-rest ags n g;
+        once = cells-met ags n g;
+        twice = twice ags n g;
         declared = cell-declared;
         few-faces = a;
         few-equations = omega (arith, b);

@@ -1,51 +1,22 @@
--- Numbers in a row, new names in order, and sides counted.
+-- New names in order, members of a list by their places, and sides counted.
 use Prim.Native.Nat.{ℕ, zero, suc, _+_, _-_, _<_, _≤_, max}
 use mathlib.Core.Path.{_≡_, refl, sym, ap, subst}
 use mathlib.Core.Bool.{Bool, true, false, cond, _&&_}
 use mathlib.Core.Logic.{_⊎_, inl, inr}
 use mathlib.Core.List.{List, [], _∷_, List·Memᴰ·head, List·Memᴰ·tail, List·Memᴰ·cases-cons, List·Memᴰ·not-nil}
 use native.Mathlib.Omega.{arith}
-use native.Mathlib.Decide.{decLt}
 use lib.ListN.{length, getD}
 use lib.Dec.{eqb, ltb}
 use borrow.Author.Tests.{eqb-true, eqb-false, eq-eqb, lt-ltb, ltb-true}
 use Rattle.calculus.specs.Terms.{δ, count}
 use Rattle.calculus.specs.Proofs.Count.{δ-same, δ-cases}
 use Rattle.parts.specs.Sides.{Side, name, cell}
-use Rattle.model.specs.Table as Model
-use Rattle.model.specs.State.{from}
 use Rattle.model.specs.Sound.{first-new, InOrder}
 use Rattle.texts.specs.Bytes.{all, keep, In}
 use Rattle.texts.specs.Coded.{new-from}
 use Rattle.texts.specs.TableTest.{tally, sameSide, numbered}
 use Rattle.texts.specs.Proofs.Tools.{never, both, pair}
 use Rattle.texts.specs.Proofs.Linear.{one, tally-cons}
-
--- How often a number stands in a row.
-pub from-out : (n k x : ℕ) → (k ≤ x → k + n ≤ x) → count x (from k n) ≡ 0
-from-out zero k x h = refl
-from-out (suc n) k x h = go (δ-cases x k) (from-out n (suc k) x (λ l. let z = h (omega (arith, l)) in omega (arith, z)))
-  where
-    go : ((x ≡ k) × (δ x k ≡ 1)) ⊎ ((¬ (x ≡ k)) × (δ x k ≡ 0)) → count x (from (suc k) n) ≡ 0 → δ x k + count x (from (suc k) n) ≡ 0
-    go (inl e) ih = let z = e .0 in let y = h (omega (arith, z)) in absurd (omega (arith, y, z))
-    go (inr e) ih = let d = e .1 in omega (arith, d, ih)
-
-pub from-in : (n k x : ℕ) → k ≤ x → x < k + n → count x (from k n) ≡ 1
-from-in zero k x h l = absurd (omega (arith, h, l))
-from-in (suc n) k x h l = go (δ-cases x k) (from-in n (suc k) x) (from-out n (suc k) x)
-  where
-    go : ((x ≡ k) × (δ x k ≡ 1)) ⊎ ((¬ (x ≡ k)) × (δ x k ≡ 0)) → (suc k ≤ x → x < suc k + n → count x (from (suc k) n) ≡ 1)
-        → ((suc k ≤ x → suc k + n ≤ x) → count x (from (suc k) n) ≡ 0) → δ x k + count x (from (suc k) n) ≡ 1
-    go (inl e) ih out = let z = e .0 in let d = e .1 in let o = out (λ m. absurd (omega (arith, m, z))) in omega (arith, d, o)
-    go (inr e) ih out = let z = e .0 in let d = e .1 in let i = ih (omega (arith, h, z)) (omega (arith, l)) in omega (arith, d, i)
-
-pub from-where : (n k x : ℕ) → 0 < count x (from k n) → (k ≤ x) × (x < k + n)
-from-where n k x h = go (decLt x k) (decLt x (k + n))
-  where
-    go : Dec (x < k) → Dec (x < k + n) → (k ≤ x) × (x < k + n)
-    go (yes l) d = absurd (let o = from-out n k x (λ m. absurd (omega (arith, l, m))) in omega (arith, h, o))
-    go (no m) (yes l) = (omega (arith, m), l)
-    go (no m) (no l) = absurd (let o = from-out n k x (λ i. omega (arith, l)) in omega (arith, h, o))
 
 -- New names in order, and numbered as they are met.
 pub in-order : (total : ℕ) (xs : List ℕ) (n : ℕ) → numbered total n xs ≡ true → InOrder n xs

@@ -10,11 +10,11 @@ use Rattle.calculus.specs.Terms.{Eqn, eqs-names, δ, count}
 use Rattle.calculus.specs.Proofs.Count.{sum-append}
 use Rattle.model.specs.Table.{Entry}
 use Rattle.model.specs.State.{from}
+use Rattle.model.specs.Proofs.Froms.{from-out, from-in}
 use Rattle.texts.specs.Books.{Agent}
 use Rattle.texts.specs.Coded.{second-from, new-from, arityAt}
 use Rattle.texts.specs.Proofs.Clauses.{Place, on-left, on-right, is-new}
 use Rattle.texts.specs.Proofs.Wires.{Wire, eqnOf, ends, ends-names, Arg, Once}
-use Rattle.texts.specs.Proofs.Rows.{from-out, from-in}
 
 module _ (ags : List Agent) (few : (n : ℕ) → arityAt ags n ≤ arity-max) (e : Entry) where
   abbrev a : ℕ

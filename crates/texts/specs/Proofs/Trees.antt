@@ -13,6 +13,7 @@ use Rattle.parts.specs.Sides.{Side, name, cell}
 use Rattle.model.specs.Table.{Cell, no-cell}
 use Rattle.model.specs.Reading.{Reads, none, by-name, by-cell, ReadsAll, no-pairs, pairs}
 use Rattle.model.specs.State.{from}
+use Rattle.model.specs.Proofs.Froms.{from-append}
 use Rattle.texts.specs.Bytes.{Word, keep}
 use Rattle.texts.specs.Terms.{Term, Terms, term, nil, cons, count}
 use Rattle.texts.specs.Books.{Agent, Equation, declared, sides}
@@ -22,13 +23,6 @@ use Rattle.texts.specs.TableTest.{tally}
 use Rattle.texts.specs.Proofs.Tools.{both}
 use Rattle.texts.specs.Proofs.Linear.{words, wordsIn, bare, bares, size-words, no-terms, tally-append, cells-term}
 use Rattle.texts.specs.Proofs.CellReading.{Held, held-first}
-
-pub from-append : (a b m : ℕ) → from m a ++ from (m + a) b ≡ from m (a + b)
-from-append zero b m = let y : m + 0 ≡ m = omega arith in let z : 0 + b ≡ b = omega arith in rw (y, z)
-from-append (suc a) b m =
-    let y : m + suc a ≡ suc m + a = omega arith in
-    let z : suc a + b ≡ suc (a + b) = omega arith in
-    rw (y, z) (ap (λ l. m ∷ l) (from-append a b (suc m)))
 
 module _ (mem : ℕ → Cell) where
   pub held-left : (m : ℕ) (ds es : List Cell) → Held mem m (ds ++ es) → Held mem m ds
