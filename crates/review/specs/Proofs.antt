@@ -4,6 +4,7 @@ pub mod Calls
 pub mod Collecting
 pub mod Computed
 pub mod Exist
+pub mod FewNames
 pub mod LoadedSo
 pub mod Made
 pub mod NetTexts
@@ -14,6 +15,7 @@ pub mod Reads
 pub mod Refusals
 pub mod RuleTexts
 pub mod Runs
+pub mod Short
 pub mod Shown
 pub mod Sources
 pub mod Spelt
