@@ -1,10 +1,10 @@
 -- How many names are printed of a net: no more than occur in it, its loops left out.
-use Prim.Native.Nat.{ℕ, zero, suc, _+_, _*_, _≤_, _<_}
+use Prim.Native.Nat.{ℕ, zero, suc, _+_, _*_, _≤_}
 use mathlib.Core.Path.{_≡_, refl, sym, ap, _∙_}
 use mathlib.Core.List.{List, [], _∷_, _++_}
 use native.Mathlib.Decide.{ℕ-discrete}
 use native.Mathlib.Omega.{arith}
-use lib.ListN.{length, length-append, List·getD-eq-default}
+use lib.ListN.{length, length-append}
 use Rattle.parts.specs.Limits.{names-max}
 use Rattle.calculus.specs.Terms.{Sort, one, Tree, var, node, nil, cons, Term, Eqn, _==_, Conf, names, eqs-names, δ, count, if-eq, none, keep, swap, step, Sides, _∼_}
 use Rattle.calculus.specs.Proofs.Count.{sum-append, if-yes, if-no}

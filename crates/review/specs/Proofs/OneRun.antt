@@ -1,7 +1,7 @@
 -- A run is determined: from one state, with one budget, picks 0 come to one stop.
 use Prim.Native.Nat.{ℕ, zero, suc, _+_, _-_, _≤_, _<_}
 use mathlib.Core.Path.{_≡_, refl, sym, ap, ap₂, subst, _∙_}
-use mathlib.Core.List.{List, [], _∷_}
+use mathlib.Core.List.{List}
 use mathlib.Core.Logic.{_↔_, inr}
 use native.Mathlib.Decide.{decLt}
 use native.Mathlib.Omega.{arith}

@@ -7,7 +7,7 @@ use lib.ListN.{length, take}
 use lib.Seq.{take-append-seam}
 use borrow.Author.Tests.{le-leb}
 use Rattle.texts.specs.Books.{Agent, Book, Net, wordRules, wordNet}
-use Rattle.texts.specs.Answers.{accepted, refused}
+use Rattle.texts.specs.Answers.{accepted}
 use Rattle.texts.specs.Coded.{tableOf, machine, load}
 use Rattle.texts.specs.NetText.{readNet}
 use Rattle.texts.specs.RuleText.{readRules}
@@ -17,7 +17,7 @@ use Rattle.model.specs.Load.{loaded}
 use Rattle.model.specs.Run.{ran}
 use Rattle.model.specs.Sound.{Sound}
 use Rattle.model.specs.Walk.{Stop, ended}
-use Rattle.table.specs.Layout.{agentsIn, tableBytes}
+use Rattle.table.specs.Layout.{agentsIn}
 use Rattle.state.specs.Layout.{view}
 use Rattle.sound.specs.Lent.{under}
 use Rattle.lent.specs.Both.{BothSound, under-is, sound-table, sound-state}
