@@ -229,7 +229,7 @@ used-few (v ∷ l) = omega (arith, used-few l)
 pub cells-fit : (s : St) (n : ℕ) → Sizes s → n ≡ used (s .symbols) → FitsIn w16 n
 cells-fit s n h e = omega (arith, e, used-few (s .symbols), h .symbols)
 
-cells-few : (s : St) (n : ℕ) → Sizes s → n ≡ used (s .symbols) → n ≤ cells-max
+pub cells-few : (s : St) (n : ℕ) → Sizes s → n ≡ used (s .symbols) → n ≤ cells-max
 cells-few s n h e = omega (arith, e, used-few (s .symbols), h .symbols)
 
 -- The whole answer.

@@ -37,7 +37,7 @@ decimal-short n = go (ltb n 10) (ltb n 100) (ltb n 1000)
     go false false true = omega arith
     go false false false = omega arith
 
-numeral-short : (k : ℕ) → length (numeral k) ≤ name-long
+pub numeral-short : (k : ℕ) → length (numeral k) ≤ name-long
 unfolding numeral
 numeral-short k = omega (arith, decimal-short k)
 

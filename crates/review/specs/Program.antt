@@ -1,22 +1,26 @@
 -- What `evaluate` prints of two texts: the other calls, made one after another, whatever table and state are lent to them,
--- "with budget 100,000 and a 65,536 byte output". `netrun` adds nothing but the files.
+-- "with budget 100,000". `netrun` adds nothing but the files.
 use Rattle.rules.specs.declared.RulesAnswer.the-variants as Rules
 use Rattle.nets.specs.declared.NetAnswer.the-variants as Nets
 use Rattle.machine.specs.declared.calls.RunAnswer.the-variants as Run
 use Rattle.answer.specs.declared.EndAnswer.{EndAnswer}
 use Rattle.answer.specs.declared.EndAnswer.the-variants as End
 use Rattle.model.specs.Walk.{paused, noroom}
-use Rattle.report.specs.Firsts.{wordPaused, wordNoroom, wordAnswer, refusal}
+use Rattle.report.specs.Firsts.{wordPaused, wordNoroom, refusal}
 use Rattle.report.specs.Firsts as First
 use Rattle.evaluation.specs.Evaluated.{budget, output-max, evaluated}
 use mathlib.Core.Path.{refl}
 use lib.ListN.{take}
-use Rattle.review.specs.Words.{ℕ, _≡_, List, _++_, length, wordRules, wordNet, view, RunAnswer}
-use Rattle.review.specs.Promises.{RulesCall, NetCall, RunCall, AnswerCall}
-use Rattle.review.specs.Proofs.{Runs.rules-refused, Runs.net-refused, Runs.run-made, Runs.stops, Runs.end-read, Runs.answers, Runs.too-long}
+use Rattle.review.specs.Words.{ℕ, _≤_, _≡_, List, _++_, length, wordRules, wordNet, view, BothSound, RunAnswer}
+use Rattle.review.specs.Promises.{RulesCall, NetCall, RunCall, AnswerCall, net-lines}
+use Rattle.review.specs.Proofs.{Runs.rules-refused, Runs.net-refused, Runs.run-made, Runs.stops, Runs.end-read, Runs.answers, Short.lines-short}
 
--- "A refusal prints `refused`, `rules` or `net` or `answer`, number, line (0 for answer), and no other line": of the rule text,
--- and then the net text is not looked at;
+-- The lines of an answer always fit into "a 65,536 byte output".
+pub answer-fits : {w v : List ℕ} (h : BothSound w v) → (view v) .waiting .used ≡ 0 → length (net-lines h) ≤ output-max
+answer-fits = lines-short
+
+-- "A refusal prints `refused`, `rules` or `net` [..], number, line [..], and no other line": of the rule text, and then the net
+-- text is not looked at;
 pub rules-refused-printed : {rules t u : List ℕ} {n j : ℕ} (net : List ℕ) → RulesCall rules t (Rules.Refused n j) u
     → evaluated rules net ≡ refusal wordRules n j
 rules-refused-printed = rules-refused
@@ -42,16 +46,13 @@ module _ {rules t w : List ℕ} (net : List ℕ) (read : RulesCall rules t Rules
     noroom-printed c = stops net read loaded c noroom _ refl
 
     module _ {n : ℕ} {v′ : List ℕ} (ended : RunCall w v budget (Run.Ended n) v′) {o o′ : List ℕ} where
-      -- The answer is not refused, but where it is longer than the output.
-      pub answer-on : {g : EndAnswer} → AnswerCall w v′ o g o′ → (¬ (g ≡ End.Unsound)) × (¬ (g ≡ End.Waits))
+      -- The answer is not refused, since it fits.
+      pub answer-on : {g : EndAnswer} → output-max ≤ length o → AnswerCall w v′ o g o′
+          → (¬ (g ≡ End.Unsound)) × (¬ (g ≡ End.Waits)) × (¬ (g ≡ End.Long))
       answer-on = end-read net read loaded ended
 
       -- "First line: `ran`, word, interactions, loops, stuck pairs, knot cells. Then `face` with its terms, then one `eq` for each
       -- stuck pair."
-      pub end-printed : {l loops stuck knot : ℕ} → length o ≡ output-max → AnswerCall w v′ o (End.Read l loops stuck knot) o′
+      pub end-printed : {l loops stuck knot : ℕ} → AnswerCall w v′ o (End.Read l loops stuck knot) o′
           → evaluated rules net ≡ First.ended n loops stuck knot ++ take l o′
       end-printed = answers net read loaded ended
-
-      -- 15: "answer longer than the output buffer".
-      pub long-printed : length o ≡ output-max → AnswerCall w v′ o End.Long o′ → evaluated rules net ≡ refusal wordAnswer 15 0
-      long-printed = too-long net read loaded ended

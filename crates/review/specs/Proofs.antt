@@ -3,6 +3,7 @@ pub mod Calls
 pub mod Collecting
 pub mod Computed
 pub mod Exist
+pub mod FewNames
 pub mod LoadedSo
 pub mod Made
 pub mod OneRun
@@ -10,6 +11,7 @@ pub mod OnlyLoaded
 pub mod Reading
 pub mod Reads
 pub mod Runs
+pub mod Short
 pub mod Shown
 pub mod Spelt
 pub mod Started

@@ -99,7 +99,7 @@ agents-stuck ((t == u) ∷ l) h = go t u (h .0) (h .1 .0) (agents-stuck l (h .1 
     go (node a ts) (var y) h k e = absurd k
     go (node a ts) (node b us) h k e = ap (λ m. (node a ts == node b us) ∷ m) e
 
-sides-size : (l : List Eqn) → size (sides l) ≡ 2 * length l
+pub sides-size : (l : List Eqn) → size (sides l) ≡ 2 * length l
 sides-size [] = refl
 sides-size ((t == u) ∷ l) = omega (arith, sides-size l)
 

@@ -37,7 +37,7 @@ pool-agents (pairs {cs = cs} {ds = ds} r w) =
     omega (arith, reads-agents r, pool-agents w, length-append cs ds)
 
 -- A list is as long as its members below n are many, if all are; and so many places of an array are in use.
-members : (n : ℕ) (l : List ℕ) → ((c : ℕ) → 0 < count c l → c < n) → below n (λ c. count c l) ≡ length l
+pub members : (n : ℕ) (l : List ℕ) → ((c : ℕ) → 0 < count c l → c < n) → below n (λ c. count c l) ≡ length l
 members n [] h = below-zero n (λ c. 0) (λ i k. refl)
 members n (x ∷ l) h =
     omega (

@@ -1,13 +1,13 @@
 -- What is printed of two texts, by the calls that are made of them one after another.
-use Prim.Native.Nat.{ℕ, _≤_, _<_}
+use Prim.Native.Nat.{ℕ, _≤_}
 use mathlib.Core.Path.{_≡_, refl, sym, ap, subst, _∙_}
 use mathlib.Core.List.{List, _++_}
 use native.Mathlib.Omega.{arith}
 use lib.ListN.{length, take}
 use lib.Seq.{take-append-seam}
-use borrow.Author.Tests.{le-leb, lt-leb}
+use borrow.Author.Tests.{le-leb}
 use Rattle.texts.specs.Books.{Agent, Book, Net, wordRules, wordNet}
-use Rattle.texts.specs.Answers.{accepted, refused}
+use Rattle.texts.specs.Answers.{accepted}
 use Rattle.texts.specs.Coded.{tableOf, machine, load}
 use Rattle.texts.specs.NetText.{readNet}
 use Rattle.texts.specs.RuleText.{readRules}
@@ -17,7 +17,7 @@ use Rattle.model.specs.Load.{loaded}
 use Rattle.model.specs.Run.{ran}
 use Rattle.model.specs.Sound.{Sound}
 use Rattle.model.specs.Walk.{Stop, ended}
-use Rattle.table.specs.Layout.{agentsIn, tableBytes}
+use Rattle.table.specs.Layout.{agentsIn}
 use Rattle.state.specs.Layout.{view}
 use Rattle.sound.specs.Lent.{under}
 use Rattle.lent.specs.Both.{BothSound, under-is, sound-table, sound-state}
@@ -33,15 +33,16 @@ use Rattle.machine.specs.declared.calls.RunAnswer.{RunAnswer}
 use Rattle.machine.specs.declared.calls.RunAnswer.the-variants as Run
 use Rattle.answer.specs.declared.EndAnswer.{EndAnswer}
 use Rattle.answer.specs.declared.EndAnswer.the-variants as End
-use Rattle.report.specs.Firsts.{wordAnswer, refusal}
+use Rattle.report.specs.Firsts.{refusal}
 use Rattle.report.specs.Firsts as First
 use Rattle.evaluation.specs.Evaluated.{budget, output-max, ending, stopping, running, net-printed, rules-printed, evaluated}
-use Rattle.review.specs.Promises.{RulesCall, NetCall, RunCall, AnswerCall, Printed, net-answer, net-lines}
+use Rattle.review.specs.Promises.{RulesCall, NetCall, RunCall, AnswerCall, net-answer}
 use Rattle.review.specs.Proofs.Spelt.{book-spelt, net-spelt-so, bytes-agents}
 use Rattle.review.specs.Proofs.Steps.{run-exactly, run-went}
 use Rattle.review.specs.Proofs.Made.{run-steps}
 use Rattle.review.specs.Proofs.OneRun.{run-leaves-sound}
 use Rattle.review.specs.Proofs.LoadedSo.{loaded-sound}
+use Rattle.review.specs.Proofs.Short.{lines-short}
 use Rattle.review.specs.Proofs.Reads.{answer-exactly, answer-printed}
 
 pub rules-refused : {rules t u : List ℕ} {n j : ℕ} (net : List ℕ) → RulesCall rules t (Rules.Refused n j) u
@@ -120,18 +121,19 @@ module _ {rules t w : List ℕ} (net : List ℕ) (read : RulesCall rules t Rules
           → evaluated rules net ≡ ending (agentsIn w) n (net-answer h)
       ends h e = stops run ended n refl ∙ ap (ending (agentsIn w) n) (state-printed (sound-table h) (sound-state h) e)
 
-      pub end-read : {o o′ : List ℕ} {g : EndAnswer} → AnswerCall w v′ o g o′ → (¬ (g ≡ End.Unsound)) × (¬ (g ≡ End.Waits))
-      end-read c = (
+      pub end-read : {o o′ : List ℕ} {g : EndAnswer} → output-max ≤ length o → AnswerCall w v′ o g o′
+          → (¬ (g ≡ End.Unsound)) × (¬ (g ≡ End.Waits)) × (¬ (g ≡ End.Long))
+      end-read size c = (
         λ e. answer-exactly c End.Unsound .0 e (run-leaves-sound run (run-made run .0)),
         λ e.
             let z : (view v′) .waiting .used ≡ 0 = (run-steps run ended n refl) .because in
             absurd (omega (arith, z, answer-exactly c End.Waits .0 e .1)),
+        λ e. let (h, z, b) = answer-exactly c End.Long .0 e in absurd (omega (arith, size, b, lines-short h z)),
       )
 
-      pub answers : {o o′ : List ℕ} {l loops stuck knot : ℕ} → length o ≡ output-max
-          → AnswerCall w v′ o (End.Read l loops stuck knot) o′
+      pub answers : {o o′ : List ℕ} {l loops stuck knot : ℕ} → AnswerCall w v′ o (End.Read l loops stuck knot) o′
           → evaluated rules net ≡ First.ended n loops stuck knot ++ take l o′
-      answers size c =
+      answers c =
           let P = answer-printed c in
           ends (P .sound) (P .nothing-waits)
           ∙ read-lines
@@ -139,16 +141,9 @@ module _ {rules t w : List ℕ} (net : List ℕ) (read : RulesCall rules t Rules
           (net-answer (P .sound))
           n
           _
-          (omega (arith, size, P .fits))
+          (lines-short (P .sound) (P .nothing-waits))
           (P .is-long)
           (P .is-loops)
           (P .is-stuck)
           (P .is-knot)
           (P .out)
-
-      pub too-long : {o o′ : List ℕ} → length o ≡ output-max → AnswerCall w v′ o End.Long o′
-          → evaluated rules net ≡ refusal wordAnswer 15 0
-      unfolding ending
-      too-long size c =
-          let (h, e, b) = answer-exactly c End.Long .0 refl in
-          ends h e ∙ rw (lt-leb (length (net-lines h)) output-max (omega (arith, size, b)))
