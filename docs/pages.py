@@ -53,7 +53,6 @@ HIDDEN = {
         "review/Program.noroom-printed",
         "review/Program.answer-on",
         "review/Program.end-printed",
-        "review/Program.long-printed",
     ],
     # the table of a book, and its bytes
     "texts/Coded.tableOf": ["review/Demand2.table-exact"],
