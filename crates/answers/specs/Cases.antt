@@ -69,7 +69,7 @@ the-answers = refl
 
 -- In the last of them the tie of w hangs on that of x, which is on a circle.
 pub tie-behind : Behind (behind-one .eqs) 6
-tie-behind = record { top = 4; way = more hangs here; circle = record { above = 4; first = round; round = here } }
+tie-behind = record { top = 4; way = more hangs here; circle = record { above = 4; hangs = round; round = here } }
   where
     hangs : Hangs (behind-one .eqs) 6 4
     hangs = record { tie = tied-head 4 0 (cons (var 4) (cons (var 6) nil)) ((var 6 == Z) ∷ []); inside = omega (arith, δ-same 6) }

@@ -26,7 +26,7 @@ pub data Up (l : List Eqn) : ℕ → ℕ → Type 0 where
 -- On a circle of ties: x hangs on another tie, or on itself, from where one comes up to x again.
 pub record Circle (l : List Eqn) (x : ℕ) : Type 0 where
   pub above : ℕ
-  pub first : Hangs l x above
+  pub hangs : Hangs l x above
   pub round : Up l above x
 
 -- On a circle of ties or behind one: upwards from x one comes to a circle.

@@ -82,7 +82,7 @@ behind-up : {l : List Eqn} {x : ℕ} → Behind l x → (y : ℕ) × (Hangs l x 
 behind-up {l} h = go (h .way) (h .circle)
   where
     go : {x z : ℕ} → Up l x z → Circle l z → (y : ℕ) × (Hangs l x y × Behind l y)
-    go {x} here c = (c .above, (c .first, record { top = x; way = c .round; circle = c }))
+    go {x} here c = (c .above, (c .hangs, record { top = x; way = c .round; circle = c }))
     go {z = z} (more {y = y} g p) c = (y, (g, record { top = z; way = p; circle = c }))
 
 -- The names that are followed.

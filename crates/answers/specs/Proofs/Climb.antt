@@ -55,7 +55,7 @@ module _
         j = (up c k) .1 .1
 
         go : (0 < count y r) ⊎ Up l y c → Behind l x
-        go (inr v) = record { top = c; way = w; circle = record { above = y; first = h; round = v } }
+        go (inr v) = record { top = c; way = w; circle = record { above = y; hangs = h; round = v } }
         go (inl m) = next (q .0) (q .1 .0) y j (up-one w h) (λ z i. still z (ℕ-discrete z y) (f z i))
           where
             q : Without y r
