@@ -94,11 +94,11 @@ lefts-in l ags s s₁ s₂ x y at a e b = record {
   left-below = a .below;
   right-below = b .below;
   meant = λ r wf hs.
-      let p = a .meant (headOf (r .first)) (argsOf (r .first)) (wordsOf (nodes (r .second ∷ rights r))) [] (omega arith) (wf .short) (wf .sound .first-agent)
+      let p = a .meant (headOf (r .first)) (argsOf (r .first)) (wordsOf (nodes (r .second ∷ rights r))) [] (omega arith) (wf .short) (wf .sound .named .first-agent)
       (first-takes l ags r wf) (first-words l ags r wf) hs in
       let z : at ≤ length l = omega (arith, e, start-le l 1) in
       let w : wordsIn (drop at l) ≡ headOf (r .second) ∷ (argsOf (r .second) ++ wordsOf (nodes (rights r))) = ap (λ n. wordsIn (drop n l)) e ∙ second-words l ags r wf in
-      let q = b .meant (headOf (r .second)) (argsOf (r .second)) (wordsOf (nodes (rights r))) (places (argsOf (r .first))) z (wf .short) (wf .sound .second-agent)
+      let q = b .meant (headOf (r .second)) (argsOf (r .second)) (wordsOf (nodes (rights r))) (places (argsOf (r .first))) z (wf .short) (wf .sound .named .second-agent)
       (second-takes l ags r wf) w (p .1) in
       (p .0, q .0, q .1);
 }

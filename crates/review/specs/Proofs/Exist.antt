@@ -40,7 +40,7 @@ use Rattle.machine.specs.declared.calls.RunAnswer.the-variants as Run
 use Rattle.answer.specs.Main as Answers
 use Rattle.evaluation.specs.Evaluated.{evaluated}
 use Rattle.review.specs.Promises.{StateArray, RulesCall, NetCall, StepCall, RunCall, AnswerCall, EvaluateCall, TableTest, BothTest, EmptyState, EmptyTable, One, Any}
-use Rattle.review.specs.Proofs.Reads.{answer-some, answer-comes, leaves}
+use Rattle.review.specs.Proofs.Reads.{answer-some, answer-comes, answer-leaves}
 use Rattle.review.specs.Proofs.Told.{step-alike, run-alike}
 use Rattle.review.specs.Proofs.Arrays.{array-of, view-of-array}
 use Rattle.review.specs.Proofs.Steps.{StepIf, step-leaves, moves-to, step-some, step-comes, RunIf, run-leaves, run-some, run-comes}
@@ -145,7 +145,7 @@ pub answer : (w v o : List ℕ) → One Any (AnswerCall w v o)
 answer w v o =
     one
     (let s = answer-some w v o in
-    (s .0, leaves w v o (s .0), record { promised = sym (answer-comes w v o (s .0) (s .1)) }))
+    (s .0, answer-leaves w v o (s .0), record { promised = sym (answer-comes w v o (s .0) (s .1)) }))
     (λ g h p q a b c d. Answers.only-answer w v o g h p q (c .promised) (d .promised))
 
 pub evaluate : (rules net o : List ℕ) → One Any (EvaluateCall rules net o)

@@ -34,11 +34,11 @@ module _ (w v o : List ℕ) where
   AnswerIf End.Long = (h : BothSound w v) × ((view v) .waiting .used ≡ 0) × (length o < length (net-lines h))
   AnswerIf (End.Read l n k m) = Printed w v o l n k m ((called w v o) .out)
 
-  abbrev pub leaves : EndAnswer → List ℕ
-  leaves End.Unsound = o
-  leaves End.Waits = o
-  leaves End.Long = o
-  leaves (End.Read l n k m) = (called w v o) .out
+  abbrev pub answer-leaves : EndAnswer → List ℕ
+  answer-leaves End.Unsound = o
+  answer-leaves End.Waits = o
+  answer-leaves End.Long = o
+  answer-leaves (End.Read l n k m) = (called w v o) .out
 
   fits : (h : BothSound w v) → (view v) .waiting .used ≡ 0 → length (net-lines h) ≤ length o
       → called w v o
@@ -52,7 +52,7 @@ module _ (w v o : List ℕ) where
       ≡ lines l n k m
   told P = rw (P .is-long, P .is-loops, P .is-stuck, P .is-knot)
 
-  pub answer-comes : (q : EndAnswer) → AnswerIf q → called w v o ≡ given (end-told q) (leaves q)
+  pub answer-comes : (q : EndAnswer) → AnswerIf q → called w v o ≡ given (end-told q) (answer-leaves q)
   answer-comes End.Unsound h = unsound-refused w v o h
   answer-comes End.Waits (h, b) = waiting-refused w v o h b
   answer-comes End.Long (h, e, b) = net-answered w v o h e ∙ handed-long (net-answer h) (net-lines h) o b
@@ -98,7 +98,7 @@ module _ {w v o : List ℕ} {g : EndAnswer} {o′ : List ℕ} (c : AnswerCall w 
       (answer-some w v o)
       (ap (λ k. k .told) (c .promised))
 
-  left : (q : EndAnswer) → g ≡ q → o′ ≡ leaves w v o q
+  left : (q : EndAnswer) → g ≡ q → o′ ≡ answer-leaves w v o q
   left q e = ap (λ k. k .out) (c .promised ∙ answer-comes w v o q (answer-exactly q .0 e))
 
   pub answer-kept : (g ≡ End.Unsound) ⊎ ((g ≡ End.Waits) ⊎ (g ≡ End.Long)) → o′ ≡ o

@@ -26,15 +26,15 @@ use Rattle.rule_sheet.specs.Wellformed.{Wellformed}
 module _ (l : List ℕ) (ags : List Agent) (r : Rule) (wf : Wellformed l ags r) where
   over : (t : Term) → declared ags (headOf t) ≡ true → ((w : Word) → In w (argsOf t) → In w (leftArgs r)) → overNames ags t ≡ true
   unfolding overNames
-  over t h k = pair (declared ags (headOf t)) _ h (true-all _ (argsOf t) (λ w m. rw (wf .sound .names w (k w m))))
+  over t h k = pair (declared ags (headOf t)) _ h (true-all _ (argsOf t) (λ w m. rw (wf .sound .named .names w (k w m))))
 
   over-first : overNames ags (r .first) ≡ true
   unfolding leftArgs
-  over-first = over (r .first) (wf .sound .first-agent) (λ w m. Memᴰ·append-left (argsOf (r .second)) m)
+  over-first = over (r .first) (wf .sound .named .first-agent) (λ w m. Memᴰ·append-left (argsOf (r .second)) m)
 
   over-second : overNames ags (r .second) ≡ true
   unfolding leftArgs
-  over-second = over (r .second) (wf .sound .second-agent) (λ w m. Memᴰ·append-right (argsOf (r .first)) m)
+  over-second = over (r .second) (wf .sound .named .second-agent) (λ w m. Memᴰ·append-right (argsOf (r .first)) m)
 
   no7 : any (wrongArgs ags) (nodes (lefts r)) ≡ false
   unfolding wrongArgs
@@ -60,8 +60,8 @@ module _ (l : List ℕ) (ags : List Agent) (r : Rule) (wf : Wellformed l ags r) 
   -- The heads take as many arguments.
   pub first-takes : length (argsOf (r .first)) ≡ takes ags (headOf (r .first))
   unfolding template
-  first-takes = first-arity ags r (wf .sound) ∙ symbol-number ags (headOf (r .first)) (wf .sound .first-agent) .1
+  first-takes = first-arity ags r (wf .sound) ∙ symbol-number ags (headOf (r .first)) (wf .sound .named .first-agent) .1
 
   pub second-takes : length (argsOf (r .second)) ≡ takes ags (headOf (r .second))
   unfolding template
-  second-takes = second-arity ags r (wf .sound) ∙ symbol-number ags (headOf (r .second)) (wf .sound .second-agent) .1
+  second-takes = second-arity ags r (wf .sound) ∙ symbol-number ags (headOf (r .second)) (wf .sound .named .second-agent) .1

@@ -19,8 +19,8 @@ header-requires c κs = search needs
 enum-told : tie.Need-enum-told
 enum-told c = search needs
 
-enum-known-first : tie.Need-enum-known-first
-enum-known-first c = search needs
+enum-known-upper : tie.Need-enum-known-upper
+enum-known-upper c = search needs
 
 returns-2 : tie.Need-returns-2
 returns-2 c = search (needs, head-3)
@@ -37,6 +37,6 @@ header-line-spec =
     slice-aggregate-header
     header-requires
     enum-told
-    enum-known-first
+    enum-known-upper
     returns-2
     returns-3)

@@ -22,8 +22,8 @@ header-requires c κs = search needs
 enum-told : tie.Need-enum-told
 enum-told c = search needs
 
-enum-known-first : tie.Need-enum-known-first
-enum-known-first c = search needs
+enum-known-upper : tie.Need-enum-known-upper
+enum-known-upper c = search needs
 
 add-read-counted : tie.Need-add-read-counted
 add-read-counted c = search needs
@@ -47,7 +47,7 @@ read-header-spec =
     slice-aggregate-header
     header-requires
     enum-told
-    enum-known-first
+    enum-known-upper
     add-read-counted
     read-counted-requires
     returns-2
