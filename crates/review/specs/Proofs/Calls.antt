@@ -22,7 +22,7 @@ use Rattle.answer.specs.Called.{given, end-told}
 use Rattle.review.specs.Promises.{StateArray, StepCall, RunCall, AnswerCall, net-lines}
 use Rattle.review.specs.Proofs.Exist.{same-state}
 use Rattle.review.specs.Proofs.Steps.{StepIf, step-asked, step-comes, step-leaves, step-exactly, step-left, step-went, step-row, RunIf, run-comes, run-leaves, run-exactly, run-kept}
-use Rattle.review.specs.Proofs.Reads.{AnswerIf, leaves, answer-comes, answer-exactly, answer-kept}
+use Rattle.review.specs.Proofs.Reads.{AnswerIf, answer-leaves, answer-comes, answer-exactly, answer-kept}
 
 -- A step that is made is a row of the step table.
 pub step-made : {w v v′ : List ℕ} {p : ℕ}
@@ -89,7 +89,7 @@ module _ {w v v′ : List ℕ} {budget : ℕ} (lent : StateArray v) (after : Sta
 
 -- A refused reading of the end.
 module _ {w v o o′ : List ℕ} where
-  answer-back : {q : EndAnswer} → leaves w v o q ≡ o → AnswerIf w v o q → o′ ≡ o → AnswerCall w v o q o′
+  answer-back : {q : EndAnswer} → answer-leaves w v o q ≡ o → AnswerIf w v o q → o′ ≡ o → AnswerCall w v o q o′
   answer-back {q} l i e = record { promised = ap (given (end-told q)) (e ∙ sym l) ∙ sym (answer-comes w v o q i) }
 
   pub answer-unsound : AnswerCall w v o End.Unsound o′ ↔ ((¬ BothSound w v) × (o′ ≡ o))

@@ -51,18 +51,18 @@ tied-names-∼ (step p q) = tied-names-∼ p ∙ tied-names-∼ q
 
 -- A reading shows no more names than it takes.
 abbrev Few : {s : Sort} → ℕ → Tree s → Reader → Reading s → Type 0
-Few n t S r = length (names (r .shown)) + tied-names (r .after .left) ≤ n + length (names t) + tied-names (S .left)
+Few n t S r = length (names (r .shown)) + tied-names (r .after .unmet) ≤ n + length (names t) + tied-names (S .unmet)
 
 module _ (f : Term → Reader → Reading one) (h : (t : Term) (S : Reader) → Few 1 t S (f t S)) where
-  named-few : (x : ℕ) (S : Reader) (d : Found) (p : Pick) → PickIs x (S .left) p → Few 0 (var x) S (named f x S d p)
+  named-few : (x : ℕ) (S : Reader) (d : Found) (p : Pick) → PickIs x (S .unmet) p → Few 0 (var x) S (named f x S d p)
   named-few x S (known k) p i = omega arith
   named-few x S unknown alone i = omega arith
   named-few x S unknown (beside (var y) r) i = omega (arith, tied-names-∼ i)
   named-few x S unknown (beside (node a ts) r) i =
-      omega (arith, tied-names-∼ i, h (node a ts) (record { next = S .next; numbers = S .numbers; left = r }))
+      omega (arith, tied-names-∼ i, h (node a ts) (record { next = S .next; numbers = S .numbers; unmet = r }))
 
   read-by-few : {s : Sort} (t : Tree s) (S : Reader) → Few 0 t S (read-by f t S)
-  read-by-few (var x) S = named-few x S (find x (S .numbers)) (pick x (S .left)) (pick-is x (S .left))
+  read-by-few (var x) S = named-few x S (find x (S .numbers)) (pick x (S .unmet)) (pick-is x (S .unmet))
   read-by-few (node a ts) S = read-by-few ts S
   read-by-few nil S = omega arith
   read-by-few (cons t ts) S =

@@ -40,7 +40,7 @@ use Rattle.review.specs.Promises.{RulesCall, NetCall, RunCall, AnswerCal
 use Rattle.review.specs.Proofs.Spelt.{book-spelt, net-spelt-so, bytes-agents}
 use Rattle.review.specs.Proofs.Steps.{run-exactly, run-went}
 use Rattle.review.specs.Proofs.Made.{run-steps}
-use Rattle.review.specs.Proofs.OneRun.{run-leaves-sound}
+use Rattle.review.specs.Proofs.Walking.{run-sound-after}
 use Rattle.review.specs.Proofs.LoadedSo.{loaded-sound}
 use Rattle.review.specs.Proofs.Short.{lines-short}
 use Rattle.review.specs.Proofs.Reads.{answer-exactly, answer-printed}
@@ -124,7 +124,7 @@ module _ {rules t w : List ℕ} (net : List ℕ) (read : RulesCall rules t Rules
       pub end-read : {o o′ : List ℕ} {g : EndAnswer} → output-max ≤ length o → AnswerCall w v′ o g o′
           → (¬ (g ≡ End.Unsound)) × (¬ (g ≡ End.Waits)) × (¬ (g ≡ End.Long))
       end-read size c = (
-        λ e. answer-exactly c End.Unsound .0 e (run-leaves-sound run (run-made run .0)),
+        λ e. answer-exactly c End.Unsound .0 e (run-sound-after run (run-made run .0)),
         λ e.
             let z : (view v′) .waiting .used ≡ 0 = (run-steps run ended n refl) .because in
             absurd (omega (arith, z, answer-exactly c End.Waits .0 e .1)),
