@@ -5,7 +5,7 @@ use native.Mathlib.Decide.{ℕ-discrete}
 use native.Mathlib.Omega.{arith}
 use Rattle.calculus.specs.Proofs.Count.{δ-same}
 use Rattle.calculus.specs.Terms.{var, node, nil, cons, Term, _==_, Conf, if-eq}
-use Rattle.texts.specs.Bytes.{decimal}
+use Rattle.texts.specs.Bytes.{bytes, decimal}
 use Rattle.answers.specs.Answer.{Answer, answer}
 use Rattle.answers.specs.Knots.{Hangs, here, more, Behind}
 use Rattle.answers.specs.Text.{numeral}
@@ -78,6 +78,6 @@ tie-behind = record { top = 4; way = more hangs here; circle = record { above = 
     round = record { tie = tied-head 4 0 (cons (var 4) (cons (var 6) nil)) ((var 6 == Z) ∷ []); inside = omega (arith, δ-same 4) }
 
 -- "Names left are printed `_0`, `_1`": so `_10`.
-pub name-printed : numeral 10 ≡ 95 ∷ 49 ∷ 48 ∷ []
+pub name-printed : numeral 10 ≡ bytes "_10"
 unfolding numeral decimal
 name-printed = refl

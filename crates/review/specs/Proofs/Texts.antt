@@ -49,9 +49,9 @@ module _ (text : List ℕ) {v v′ : List ℕ} (lent : StateArray v) (left : Sta
       → NetCall text (tableBytes b) v (Net.Refused n j) v′ ↔ (NetRefused (b .agents) text n j × (v′ ≡ v))
   net-refused b g n j =
       let x = subst
-          (λ ags. (netCall text (tableBytes b) (view v) ≡ kept n j (view v)) ↔ NetRefused ags text n j)
-          (agents-of b g)
-          (Nets.refused-exact text (tableBytes b) (view v) (b, g, refl) n j) in
+      (λ ags. (netCall text (tableBytes b) (view v) ≡ kept n j (view v)) ↔ NetRefused ags text n j)
+      (agents-of b g)
+      (Nets.refused-exact text (tableBytes b) (view v) (b, g, refl) n j) in
       (λ c. let k = kept-as c in (x .0 (k .0), k .1), λ k. call-as (x .1 (k .0)) (k .1))
 
   unsound : (w : List ℕ) → ¬ Given w → soundTable w ≡ false
