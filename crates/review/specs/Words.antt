@@ -1,10 +1,10 @@
 -- The words of the statements, and the page on which each is defined.
 pub use Prim.Native.{Nat.ℕ, Nat.zero, Nat.suc, Nat._+_, Nat._*_, Nat._-_, Nat._≤_, Nat._<_, String.String}
-pub use mathlib.Core.{Path._≡_, Logic._↔_, Logic._⊎_, Bool.Bool, Bool.true, Bool.false, Bool.not, Bool._&&_, Option.Option, List.List, List.[], List._∷_, List._++_}
-pub use lib.{ListN.length, ListN.getD, ListN.drop, Seq.sets}
+pub use mathlib.Core.{Path._≡_, Logic._↔_, Logic._⊎_, Bool.Bool, Bool.true, List.List, List.[], List._∷_, List._++_}
+pub use lib.{ListN.length, ListN.drop, Seq.sets}
 pub use Rattle.parts.specs.Limits.{budget-max, text-max}
 pub use Rattle.calculus.specs.Nets.{_≈_}
-pub use Rattle.calculus.specs.Calculus.{Label, Communication, Interaction, Step}
+pub use Rattle.calculus.specs.Calculus.{Label, Step}
 pub use Rattle.calculus.specs.Terms.{Conf, count}
 pub use Rattle.calculus.specs.Descent.{Steps, Normal}
 pub use Rattle.texts.specs.Bytes.{bytes, Line}
@@ -18,7 +18,7 @@ pub use Rattle.model.specs.Rows.{NoRoom, Row}
 pub use Rattle.model.specs.State.{St, used, empty}
 pub use Rattle.model.specs.Load.{loaded}
 pub use Rattle.model.specs.Sound.{Sound, meaning, book}
-pub use Rattle.model.specs.Table.{Entry, Table, Found, entry}
+pub use Rattle.model.specs.Table.{Table, Found}
 pub use Rattle.model.specs.Walk.{Stop, ended, paused, noroom, over, right}
 pub use Rattle.table.specs.Layout.{tableBytes, agentsIn, bytesOf}
 pub use Rattle.table.specs.Given.{Given}
@@ -37,6 +37,6 @@ pub use Rattle.nets.specs.Answer.{told, netCall}
 pub use Rattle.nets.specs.declared.NetAnswer.{NetAnswer}
 pub use Rattle.machine.specs.declared.calls.StepAnswer.{StepAnswer}
 pub use Rattle.machine.specs.declared.calls.RunAnswer.{RunAnswer}
-pub use Rattle.machine.specs.Calls.{stopped, run-told, out, step-told, step-called, run-called}
+pub use Rattle.machine.specs.Calls.{run-told, out, step-told, step-called, run-called}
 pub use Rattle.answer.specs.Called.{called, given, end-told}
 pub use Rattle.evaluation.specs.Evaluated.{evaluated}
