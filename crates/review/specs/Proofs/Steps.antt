@@ -12,7 +12,7 @@ use Rattle.model.specs.Stepped.{stepped}
 use Rattle.model.specs.Run.{ran}
 use Rattle.model.specs.Walk.{Stop, ended, paused, noroom}
 use Rattle.model.specs.Rows.{NoRoom, Row}
-use Rattle.model.specs.StepTable.{step-table, every-step}
+use Rattle.model.specs.StepTable.{every-step}
 use Rattle.model.specs.Kept.{step-sound}
 use Rattle.model.specs.Stopped.{refused-12, refused-13, no-other}
 use Rattle.state.specs.Layout.{view}

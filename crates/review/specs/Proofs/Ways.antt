@@ -27,7 +27,6 @@ use Rattle.sound.specs.Lent.{under}
 use Rattle.lent.specs.Both.{BothSound, sound-table, sound-state}
 use Rattle.review.specs.Proofs.Told.{told-stop}
 use Rattle.machine.specs.declared.calls.StepAnswer.{StepAnswer}
-use Rattle.machine.specs.declared.calls.RunAnswer.{RunAnswer}
 use Rattle.texts.specs.Bytes.{textOf}
 use Rattle.table.specs.Layout.{agentsIn}
 use Rattle.answers.specs.Same.{Same}

@@ -7,7 +7,6 @@ use native.Mathlib.Omega.{arith}
 use lib.ListN.{length, getD, length-append, length-map}
 use lib.Seq.{ext-getD}
 use Rattle.calculus.specs.Calculus as Calculus
-use Rattle.calculus.specs.Terms.{Conf}
 use Rattle.model.specs.Table.{Table, no-entry, entry}
 use Rattle.model.specs.Sound.{Means, book}
 use Rattle.model.specs.Proofs.Books as Books
