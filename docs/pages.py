@@ -230,7 +230,7 @@ def determines(theorem, name):
 
 
 def hide(pages):
-    """The hidden definitions, each with its theorems, once they have passed."""
+    """What is not followed, with what is followed in its place: the theorems of a hidden definition, once they have passed."""
     hidden = {}
     for key, theorems in HIDDEN.items():
         proofs = [t for key in theorems for t in named(pages, key)]
@@ -246,6 +246,9 @@ def hide(pages):
         for e in rests - {d} - set(proofs) - set(hidden):
             if any(u is d for u in e.uses()):
                 sys.exit(f"pages.py: {d.page.key}.{d.name} is hidden by what rests on it: {e.page.key}.{e.name}")
+    for key, theorems in PROOFS.items():
+        for d in named(pages, key):
+            hidden[d] = [t for k in theorems for t in named(pages, k)] + list(d.uses())
     return hidden
 
 
@@ -260,9 +263,6 @@ def shut(hidden, statements):
 def main():
     pages = read_pages()
     hidden = hide(pages)
-    for key, theorems in PROOFS.items():
-        for d in named(pages, key):
-            hidden[d] = [t for k in theorems for t in named(pages, k)] + list(d.uses())
     asked = {n for names in QUESTIONS.values() for n in names}
     everything = set()
     for key, page in pages.items():
