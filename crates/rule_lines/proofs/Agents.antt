@@ -15,7 +15,7 @@ use Rattle.texts.specs.Answers.{need, refuse}
 use Rattle.texts.specs.Coded.{Table, tableOf}
 use Rattle.texts.specs.RuleText.{agentShape, recordOf, ruleless, tooLong, bigRecord, bigBook, fault5, fault6, fault7, fault8, fault9, fault10, judged}
 use Rattle.texts.specs.Good.{GoodBook}
-use Rattle.texts.specs.Conditions.{Fits}
+use Rattle.texts.specs.Proofs.Shapes.{Fits}
 use Rattle.texts.specs.Proofs.Shapes.{to-shape}
 use Rattle.texts.specs.Proofs.RuleMeans.{Sized, good-sized}
 use Rattle.texts.specs.Proofs.Forward.{table-pass}

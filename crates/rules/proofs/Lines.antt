@@ -14,7 +14,7 @@ use Rattle.texts.specs.Books.{Book, Rule, isRule, add, pairs, lefts, rights}
 use Rattle.texts.specs.Answers.{OfLine, fault, absent, need, refuse, _>>=_}
 use Rattle.texts.specs.RuleText.{Shape, agentShape, ruleShape, even, ruleless, shapeOf, shape, termsOf, recordOf, judged, ruleLine}
 use Rattle.texts.specs.Good.{GoodBook}
-use Rattle.texts.specs.Conditions.{Fits, shapeFields}
+use Rattle.texts.specs.Proofs.Shapes.{Fits, shapeFields}
 use Rattle.texts.specs.Proofs.Reader.{termOf}
 use Rattle.texts.specs.Proofs.Tools.{never, never′}
 use Rattle.texts.specs.Proofs.Shapes.{to-shape}

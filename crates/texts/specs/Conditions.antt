@@ -1,30 +1,14 @@
--- Conditions of document 01 said without tests: the fields of a record, the rule conditions, the spelling of symbols.
-use Prim.Native.Nat.{_<_, _≤_}
+-- Conditions of document 01 said without tests: the rule conditions, the spelling of symbols.
+use Prim.Native.Nat.{_≤_}
 use mathlib.Core.Path.{_≡_}
 use mathlib.Core.Bool.{true, false}
 use mathlib.Core.Logic.{_↔_, _⊎_}
 use mathlib.Core.List.{List, [], _∷_, map}
 use lib.ListN.{length}
 use Rattle.parts.specs.Limits.{identifier-max}
-use Rattle.texts.specs.Bytes.{Word, In, Distinct, times, decimal}
-use Rattle.texts.specs.Terms.{Term, term, nil, symbol, spell, Node, nodes}
-use Rattle.texts.specs.Books.{Agent, Rule, Book, Record, isAgent, isRule, declared, takes, rights, headOf, argsOf, leftArgs, cellsOf, namesOf, newNames, wordAgent, wordRule}
-use Rattle.texts.specs.RuleText.{Shape, agentShape, ruleShape, even, ruleless}
-
--- The fields of an agent's line and of a rule's.
-unfoldable pub shapeFields : Shape → List Word
-shapeFields (agentShape s n) = wordAgent ∷ s ∷ decimal n ∷ []
-shapeFields (ruleShape f g fs) = wordRule ∷ f ∷ g ∷ fs
-
--- An agent before all rules, its number written in 1 to 4 digits; and right sides as pairs of fields.
-unfoldable pub Fits : Book → Shape → Type 0
-Fits b (agentShape s n) = (ruleless b ≡ true) × (n < 10000)
-Fits b (ruleShape f g fs) = even fs ≡ true
-
--- How a record is written.
-unfoldable pub shapeFor : Record → Shape
-shapeFor (isAgent a) = agentShape (a .symbol) (a .arity)
-shapeFor (isRule r) = ruleShape (spell (r .first)) (spell (r .second)) (map spell (rights r))
+use Rattle.texts.specs.Bytes.{Word, In, Distinct, times}
+use Rattle.texts.specs.Terms.{Term, term, nil, symbol, Node, nodes}
+use Rattle.texts.specs.Books.{Agent, Rule, Record, isAgent, isRule, declared, takes, rights, headOf, argsOf, leftArgs, cellsOf, namesOf, newNames}
 
 -- 7, 8 and 10 are asked of rules: an agent's record has none of them.
 unfoldable pub OfRule : (Rule → Type 0) → Record → Type 0

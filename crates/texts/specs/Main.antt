@@ -14,18 +14,18 @@ use Rattle.model.specs.NetReads.{NetReads}
 use Rattle.model.specs.Sound.{Means}
 use Rattle.model.specs.Sound as Machine
 use Rattle.model.specs.SoundTable as SoundTable
-use Rattle.texts.specs.Bytes.{Word, Line, fields, numberOf, decimal, In}
+use Rattle.texts.specs.Bytes.{Word, Line, numberOf, decimal, In}
 use Rattle.texts.specs.Terms.{Term, spell, worded}
 use Rattle.texts.specs.Books.{Agent, Rule, Book, Record, noBook, Net, lefts, rights, printBook, printNet}
 use Rattle.texts.specs.Answers.{accepted, refused}
-use Rattle.texts.specs.RuleText.{Shape, fault3, fault4, fault7, fault8, fault10, readRules}
+use Rattle.texts.specs.RuleText.{fault7, fault8, fault10, readRules}
 use Rattle.texts.specs.NetText.{netFault7, readNet, netRead}
 use Rattle.texts.specs.Coded.{Table, tableOf, template, machine, load}
 use Rattle.texts.specs.Meaning.{meantRule, meantNet}
 use Rattle.texts.specs.TableTest.{testTable}
 use Rattle.texts.specs.Refused.{Begins, BadLine, records, rulesWritten, RulesRight, RuleWrong, RulesRefused, headed, faced, netWritten, NetRight, NetWrong, NetRefused, miscounted}
-use Rattle.texts.specs.Good.{Spelt, GoodBook, GoodNet, SoundTable}
-use Rattle.texts.specs.Conditions.{shapeFields, Fits, shapeFor, OfRule, Argued, WellNamed, TwoSided, SpeltAgents}
+use Rattle.texts.specs.Good.{GoodBook, GoodNet, SoundTable}
+use Rattle.texts.specs.Conditions.{OfRule, Argued, WellNamed, TwoSided, SpeltAgents}
 use Rattle.texts.specs.Proofs.Reader.{termOf}
 use Rattle.texts.specs.Proofs.Spelling.{term-exact}
 use Rattle.texts.specs.Proofs.Splitting.{number-exact}
@@ -40,7 +40,6 @@ use Rattle.texts.specs.Proofs.NetRefusals as Nets
 use Rattle.texts.specs.Proofs.NetMeans.{net-accepted, net-print-unique}
 use Rattle.texts.specs.Proofs.NetRead.{net-read-refused, net-read-accepted}
 use Rattle.texts.specs.Proofs.Link.{sound-exact, book-sound, book-means, net-ready, net-closed, accepted-loads}
-use Rattle.texts.specs.Proofs.Shapes.{fault3-exact, fault4-exact}
 
 -- Spelling. A field means t exactly if t is spelt so and every head in it is an identifier.
 pub field-means : (s : List ℕ) (t : Term) → (termOf s ≡ some t) ↔ ((spell t ≡ s) × (worded t ≡ true))
@@ -53,17 +52,6 @@ number-means = number-exact
 -- The flat pass over a field ends well exactly if the field spells a term, at any depth.
 pub flat-pass : (s : List ℕ) → (done (scan (want 0) s) ≡ true) ↔ ((t : Term) × (termOf s ≡ some t))
 flat-pass = scan-exact
-
--- Number 3: the line's fields are those of no record that may stand there.
-pub number-3 : (b : Book) (l : Line)
-    → (fault3 b l ≡ true) ↔ (¬ ((s : Shape) × (shapeFields s ≡ fields (l .bytes)) × Fits b s))
-number-3 = fault3-exact
-
--- Number 4: they are, and no well-spelt record is written so.
-pub number-4 : (b : Book) (l : Line)
-    → (fault4 b l ≡ true)
-    ↔ ((s : Shape) × (shapeFields s ≡ fields (l .bytes)) × Fits b s × ((r : Record) → shapeFor r ≡ s → ¬ Spelt r))
-number-4 = fault4-exact
 
 -- Number 7: a rule has it exactly if some argument count in it is wrong, and an agent never.
 pub number-7 : (b : Book) (r : Record)

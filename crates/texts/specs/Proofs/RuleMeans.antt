@@ -21,7 +21,7 @@ use Rattle.texts.specs.Proofs.Means.{refuse-fine, need-fine, line-ended,
 use Rattle.texts.specs.Proofs.Reading.{lines-accepted, after-accepted, line-accepted}
 use Rattle.texts.specs.Proofs.LineTests.{Reads}
 use Rattle.texts.specs.Good.{Spelt, Placed, Good, GoodFrom, GoodBook}
-use Rattle.texts.specs.Conditions.{shapeFields, Fits, shapeFor}
+use Rattle.texts.specs.Proofs.Shapes.{shapeFields, Fits, shapeFor}
 use Rattle.texts.specs.Proofs.Shapes.{to-shape, from-shape, to-record, from-record}
 
 -- Number 3: the shapes that a line can have.

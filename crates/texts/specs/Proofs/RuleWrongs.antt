@@ -14,7 +14,7 @@ use Rattle.texts.specs.Books.{Book, Record, isAgent, isRule, sides, righ
 use Rattle.texts.specs.Answers.{absent, holds, _>>=_}
 use Rattle.texts.specs.RuleText.{headerOf, Shape, agentShape, ruleShape, agentFields, ruleless, shapeOf, recordOf, shape, meant, fault3, fault4, fault5, fault6, fault7, fault8, fault9, fault10}
 use Rattle.texts.specs.Refused.{RulesSoFar, records, RuleFields, header, agent, rule, Stands, stands, RuleWrong, two, three, four, five, six, seven, eight, nine, ten}
-use Rattle.texts.specs.Conditions.{shapeFields, Fits, shapeFor}
+use Rattle.texts.specs.Proofs.Shapes.{shapeFields, Fits, shapeFor}
 use Rattle.texts.specs.Proofs.Tools.{never, never′, both, found}
 use Rattle.texts.specs.Proofs.Splitting.{line-fields, number-small}
 use Rattle.texts.specs.Proofs.Means.{header-absent, even-map, even-sides}

@@ -1,21 +1,36 @@
--- Numbers 3 and 4 exactly: what a line is, and the record that it means.
+-- Number 3 exactly: what a line is, and the record that it means.
+use Prim.Native.Nat.{_<_}
 use mathlib.Core.Path.{_≡_, refl, sym, ap, _∙_}
-use mathlib.Core.Bool.{Bool, true, false, cond, not, _&&_}
+use mathlib.Core.Bool.{Bool, true, false, cond, _&&_}
 use mathlib.Core.Logic.{_↔_}
-use mathlib.Core.List.{List, [], _∷_}
+use mathlib.Core.List.{List, [], _∷_, map}
 use mathlib.Core.Option.{Option, none, some}
-use Rattle.texts.specs.Bytes.{Word, Line, all, same, fields, numberOf}
+use Rattle.texts.specs.Bytes.{Word, Line, all, same, fields, numberOf, decimal}
 use Rattle.texts.specs.Terms.{spell, worded, symbol}
 use Rattle.texts.specs.Books.{Book, Record, isAgent, isRule, sides, pairs, lefts, rights, wordAgent, wordRule}
 use Rattle.texts.specs.Answers.{absent, _>>=_}
-use Rattle.texts.specs.RuleText.{termsOf, even, Shape, agentShape, ruleShape, agentFields, ruleFields, ruleless, shapeOf, recordOf, shape, meant, fault3, fault4}
+use Rattle.texts.specs.RuleText.{termsOf, even, Shape, agentShape, ruleShape, agentFields, ruleFields, ruleless, shapeOf, recordOf, shape, fault3}
 use Rattle.texts.specs.Proofs.Tools.{never, both, same-eq, found}
 use Rattle.texts.specs.Proofs.Splitting.{number-decimal, decimal-number}
 use Rattle.texts.specs.Proofs.Spelling.{term-spell, spell-term}
 use Rattle.texts.specs.Proofs.Means.{nothing, terms-spell, spell-terms, sides-pairs, pairs-sides, even-map}
 use Rattle.texts.specs.Proofs.Reader.{termOf}
 use Rattle.texts.specs.Good.{Spelt}
-use Rattle.texts.specs.Conditions.{shapeFields, Fits, shapeFor}
+
+-- The fields of an agent's line and of a rule's.
+unfoldable pub shapeFields : Shape → List Word
+shapeFields (agentShape s n) = wordAgent ∷ s ∷ decimal n ∷ []
+shapeFields (ruleShape f g fs) = wordRule ∷ f ∷ g ∷ fs
+
+-- An agent before all rules, its number written in 1 to 4 digits; and right sides as pairs of fields.
+unfoldable pub Fits : Book → Shape → Type 0
+Fits b (agentShape s n) = (ruleless b ≡ true) × (n < 10000)
+Fits b (ruleShape f g fs) = even fs ≡ true
+
+-- How a record is written.
+unfoldable pub shapeFor : Record → Shape
+shapeFor (isAgent a) = agentShape (a .symbol) (a .arity)
+shapeFor (isRule r) = ruleShape (spell (r .first)) (spell (r .second)) (map spell (rights r))
 
 pub agent-shape : (b : Book) (fs : List Word) (s : Shape) → ruleless b ≡ true → agentFields fs ≡ some s → (shapeFields s ≡ wordAgent ∷ fs) × Fits b s
 unfolding agentFields shapeFields Fits
@@ -101,27 +116,3 @@ fault3-exact b l = (λ h p. to (shapeOf b (fields (l .bytes))) refl h p, λ n. f
     from : (o : Option Shape) → shapeOf b (fields (l .bytes)) ≡ o → ¬ ((s : Shape) × (shapeFields s ≡ fields (l .bytes)) × Fits b s) → absent o ≡ true
     from none e n = refl
     from (some s) e n = let p = shape-exact b (fields (l .bytes)) s .0 e in absurd (n (s, p .0, p .1))
-
-pub fault4-exact : (b : Book) (l : Line)
-    → (fault4 b l ≡ true) ↔ ((s : Shape) × (shapeFields s ≡ fields (l .bytes)) × Fits b s × ((r : Record) → shapeFor r ≡ s → ¬ Spelt r))
-unfolding fault4 fault3 meant shape absent _>>=_
-fault4-exact b l = (to (shapeOf b (fields (l .bytes))) refl, from)
-  where
-    no-record : (s : Shape) → Fits b s → (o : Option Record) → recordOf s ≡ o → absent o ≡ true → (r : Record) → shapeFor r ≡ s → ¬ Spelt r
-    no-record s f none e h r p q = nothing (sym e ∙ record-exact b s f r .1 (p, q))
-    no-record s f (some x) e h r p q = never h
-
-    to : (o : Option Shape) → shapeOf b (fields (l .bytes)) ≡ o → (not (absent o) && absent (o >>= recordOf)) ≡ true
-        → (s : Shape) × (shapeFields s ≡ fields (l .bytes)) × Fits b s × ((r : Record) → shapeFor r ≡ s → ¬ Spelt r)
-    to none e h = never h
-    to (some s) e h = let p = shape-exact b (fields (l .bytes)) s .0 e in (s, p .0, p .1, no-record s (p .1) (recordOf s) refl h)
-
-    none-found : (s : Shape) → Fits b s → ((r : Record) → shapeFor r ≡ s → ¬ Spelt r) → (o : Option Record) → recordOf s ≡ o → absent o ≡ true
-    none-found s f n none e = refl
-    none-found s f n (some r) e = let p = record-exact b s f r .0 e in absurd (n r (p .0) (p .1))
-
-    from : (s : Shape) × (shapeFields s ≡ fields (l .bytes)) × Fits b s × ((r : Record) → shapeFor r ≡ s → ¬ Spelt r)
-        → (not (absent (shapeOf b (fields (l .bytes)))) && absent (shapeOf b (fields (l .bytes)) >>= recordOf)) ≡ true
-    from (s, e, f, n) = rw (shape-exact b (fields (l .bytes)) s .1 (e, f)) (none-found s f n (recordOf s) refl)
-
--- A line that is fine.
