@@ -7,7 +7,7 @@ use Prim.Native.Nat.{ℕ, zero, suc, ◌+◌, ◌<◌, ◌≤◌}
 use native.Mathlib.Omega.{arith}
 use lib.ListN.{length, drop}
 use lib.Seq.{sets, sets-eq}
-use borrow.Author.Tests.{not_true, not-false, le-leb, lt-leb}
+use borrow.Author.Tests.{not-true, not-false, le-leb, lt-leb}
 use Rattle.table.specs.Layout.{agents_in}
 use Rattle.state.specs.Layout.{view}
 use Rattle.sound.specs.Lent.{under}
@@ -28,7 +28,7 @@ module _ (w v : List ℕ) (t : Bool) (i : (t ≡ true) ↔ BothSound w v) where
   pub way_unsound : (o : List ℕ) → not t ≡ true → given (number 16) o ≡ called w v o
   unfolding called
   way_unsound o h =
-      sym (where_not w v _ (given (number 16) o) (λ b. true_not_false (sym (i.1 b) ∙ not_true t h)))
+      sym (where_not w v _ (given (number 16) o) (λ b. true_not_false (sym (i.1 b) ∙ not-true t h)))
 
   module _ (o : List ℕ) (h : not t ≡ false) (n : ℕ) (e : n ≡ (view v).waiting.used) where
     abbrev W : Written

@@ -7,12 +7,12 @@ use mir.Syntax.{w16}
 use mir.Val.{Fits as FitsIn}
 use lib.ListN.{length, get_or, take, length-append}
 use lib.Seq.{sets}
-use Rattle.calculus.specs.Proofs.Ended.{All}
+use Rattle.calculus.proofs.Beneath.Ended.{All}
 use Rattle.parts.specs.Limits.{cells_max, names_max, face_max}
 use Rattle.parts.specs.Sides.{Side, side}
 use Rattle.model.specs.State.{St, used, unpack, zeros, listed}
 use Rattle.model.specs.Sound.{Sizes, sides}
-use Rattle.model.specs.Proofs.Ranges.{LiveSide, face-live, stuck-live}
+use Rattle.model.proofs.Beneath.Ranges.{LiveSide, face-live, stuck-live}
 use Rattle.texts.specs.Bytes.{Word}
 use Rattle.texts.specs.Books.{word_face, word_eq}
 use Rattle.table.specs.Layout.{agents_in}
@@ -22,8 +22,8 @@ use Rattle.state.specs.declared.Part.TheVariants.{Stuck, Face}
 use Rattle.sound.specs.Lent.{under}
 use Rattle.lent.specs.Both.{BothSound, sound_table_lem, sound-state}
 use Rattle.answers.specs.Printing.{Pen, pen, Fits, Written, written, both, sides_bytes, line_bytes, pairs_bytes, first_pen, face_written, answer_written}
-use Rattle.answers.specs.PrintingLaws.{line_is, pairs_none, pairs_more, first_fits, sides-kept}
-use Rattle.answers.specs.Proofs.Live.{all_taken}
+use Rattle.answers.proofs.PrintingLaws.{line_is, pairs_none, pairs_more, first_fits, sides-kept}
+use Rattle.answers.proofs.Beneath.Live.{all_taken}
 use Rattle.printing.specs.Puts.{Puts, far, name_long}
 use Rattle.printing.specs.Prints.{held, Prints, Stands, dear, Ready, Row, span, sides_of}
 use Rattle.printing.specs.declared.terms.Cursor.{Cursor}

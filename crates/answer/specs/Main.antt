@@ -14,7 +14,7 @@ use Rattle.answers.specs.Answer.{Answer, answer}
 use Rattle.answers.specs.Printer.{state_answer, answer_bytes}
 use Rattle.answers.specs.Text.{line_of_face, answer_text}
 use Rattle.answers.specs.Printing.{answer_written}
-use Rattle.answers.specs.Main.{state-printed, bytes-printed, no_two_tonnages, same_line}
+use Rattle.answers.proofs.Main.{state-printed, bytes-printed, no_two_tonnages, same_line}
 use Rattle.answer.specs.Called.{Told, number, lines, end_told, Called, given, fitted, ended, called}
 use Rattle.answer.specs.declared.EndAnswer.TheVariants.{Unsound, Waits, Long, Read}
 use Rattle.answer.specs.declared.EndAnswer.{EndAnswer}

@@ -6,7 +6,4 @@ pub mod Knots
 pub mod Text
 pub mod Printer
 pub mod Printing
-pub mod PrintingLaws
-pub mod Proofs
-pub mod Main
 pub mod Cases

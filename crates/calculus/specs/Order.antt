@@ -4,8 +4,6 @@ use Rattle.calculus.specs.Terms.{Conf, δ}
 use Rattle.calculus.specs.Calculus.{Valid, Book, Sound, Label, Com, Int, Step}
 use Rattle.calculus.specs.Nets.{◌≈◌}
 use Rattle.calculus.specs.Descent.{Steps, Normal, tally, Ends}
-use Rattle.calculus.specs.Proofs.Descent.{descent, at_most, at_end}
-use Rattle.calculus.specs.Proofs.Order.{calculus_diamond}
 
 -- How many steps, how many Interactions, and how many of these by rule number i: each is a tally of the labels.
 abbrev pub is_interaction : Label → ℕ
@@ -35,17 +33,3 @@ pub record Agreed (B : Book) (M : List Label) (N : Conf) (M' : List Label) (D : 
   pub goes_on : Ends ◌≈◌ (Step B) D M' M N
   -- and where neither rule applies it has come to as much, and is at the same net
   pub ended : Normal (Step B) D → ((f : Label → ℕ) → tally f M' ≡ tally f M) × (D ≈ N)
-
--- Suppose some sequence of Communications and Interactions takes a valid configuration to where neither applies. Then
--- any other agrees with it.
-pub order_does_not_matter : {B : Book} → Sound B → {C N D : Conf} {M M' : List Label} → Valid C
-    → Steps (Step B) C M N → Normal (Step B) N → Steps (Step B) C M' D → Agreed B M N M' D
-order_does_not_matter S v w n w' =
-    let k = descent (calculus_diamond S) v w n w' in record { no_more = at_most k; goes_on = k; ended = at_end k }
-
--- Read for the Interactions, and for the uses of each rule: two runs to an end have made as many.
-pub same_interactions : {B : Book} → Sound B → {C N D : Conf} {M M' : List Label} → Valid C
-    → Steps (Step B) C M N → Normal (Step B) N → Steps (Step B) C M' D → Normal (Step B) D
-    → (steps M' ≡ steps M) × (interactions M' ≡ interactions M) × ((i : ℕ) → uses i M' ≡ uses i M)
-same_interactions S v w n w' n' =
-    let e = (order_does_not_matter S v w n w').ended n' in (e.0 (λ l. 1), e.0 is_interaction, λ i. e.0 (is_use i))

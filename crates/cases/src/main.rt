@@ -1,5 +1,6 @@
 // Runs each case that `index.txt` names: through the two readers, whose answers are printed, and through the evaluator, whose output
 // is held to the expected one.
+#![tactic(auto)]
 ghost use Rattle.std.specs.Prelude.{◌≤◌, length};
 ghost use Rattle.parts.specs.Limits.{text_max};
 ghost use Rattle.io.specs.Counts.{IsPrefixLen};

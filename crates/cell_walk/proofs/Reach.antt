@@ -7,15 +7,15 @@ use native.Mathlib.Omega.{arith}
 use native.Mathlib.Decide.{dec_lt}
 use lib.Dec.{eqb}
 use lib.ListN.{length, get_or, take, drop, length-set, length-take, length-append, length-map}
-use borrow.Author.Tests.{not_true, not-false}
+use borrow.Author.Tests.{not-true, not-false}
 use Rattle.parts.specs.Limits.{arity_max, cells_max, names_max}
 use Rattle.parts.specs.Sides.{Side, side}
 use Rattle.model.specs.State.{St, zeros}
 use Rattle.model.specs.Table as Model
 use Rattle.model.specs.Sound.{width, live, Sizes, mem_of}
 use Rattle.model.specs.Test.{every, Search, lost, saw, search_from, roots, searched, all_seen, reached}
-use Rattle.model.specs.Proofs.Facts.{zeros-length}
-use Rattle.model.specs.Proofs.Pool.{in_range}
+use Rattle.model.proofs.Beneath.Facts.{zeros-length}
+use Rattle.model.proofs.Beneath.Pool.{in_range}
 use Rattle.sound.specs.Lent.{under, Usable}
 use Rattle.sound.proofs.Tables.{width_small}
 use Rattle.cell_walk.specs.Walks.{Walks, done, past, beyond, again, unused, into, unmet, Walked, Ready, all_roots, met}
@@ -115,7 +115,7 @@ module _ (w : List ℕ) (s : St) (u : Usable w × Sizes s) where
     pub reached-lost : (ok : Bool) → Walked w s (all_roots s) seen ok seen₁ → not ok ≡ true → false ≡ reached (under w) s
     unfolding reached
     reached-lost ok f t =
-        let g = subst (λ b. Walked w s (all_roots s) seen b seen₁) (not_true ok t) f in
+        let g = subst (λ b. Walked w s (all_roots s) seen b seen₁) (not-true ok t) f in
         ap (λ r. all_seen r s.symbols) (sym (from-zeros (g.goes [] lost refl)))
 
     pub reached-saw : (ok r : Bool) → Walked w s (all_roots s) seen ok seen₁ → not ok ≡ false

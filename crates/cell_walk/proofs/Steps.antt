@@ -5,7 +5,7 @@ use mathlib.Core.List.{List, [], ◌++◌, append_assoc}
 use Prim.Native.Nat.{ℕ, ◌≤◌}
 use native.Mathlib.Omega.{arith}
 use lib.ListN.{length}
-use borrow.Author.Tests.{not_true, not-false}
+use borrow.Author.Tests.{not-true, not-false}
 use Rattle.parts.specs.Sides.{Side}
 use Rattle.model.specs.State.{St}
 use Rattle.model.specs.Table as Model
@@ -67,7 +67,7 @@ module _ {w : List ℕ} {s : St} {all rest : List Side} {before seen : List ℕ}
 
     pub left_stop : not ok ≡ true → Begins rest a → Walked w s all before false seen₁
     left_stop t e =
-        h.on false seen₁ (rw e.cut.parts (steps-stop (mem_of (under w) s) s.symbols e.after (rw (not_true ok t) at f)))
+        h.on false seen₁ (rw e.cut.parts (steps-stop (mem_of (under w) s) s.symbols e.after (rw (not-true ok t) at f)))
 
     pub left_last : rest ≡ a → Walked w s all before ok seen₁
     left_last e = h.on ok seen₁ (rw e f)

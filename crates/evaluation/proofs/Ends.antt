@@ -18,7 +18,7 @@ use Rattle.sound.specs.Lent.{under}
 use Rattle.lent.specs.Both.{sound_table_lem, sound-state}
 use Rattle.lent.specs.Decided.{where_sound}
 use Rattle.answers.specs.Answer.{Answer}
-use Rattle.answers.specs.Main.{bytes-printed}
+use Rattle.answers.proofs.Main.{bytes-printed}
 use Rattle.answers.specs.Printer.{state_answer, answer_bytes}
 use Rattle.answers.specs.Printing.{Written, answer_written}
 use Rattle.answers.specs.Text.{answer_text}

@@ -6,10 +6,10 @@ use native.Mathlib.Decide.{dec_lt}
 use native.Mathlib.Omega.{arith}
 use Rattle.parts.specs.Limits.{budget_max}
 use Rattle.model.specs.Walk.{Stopped, Because, Stop, ended, paused, noroom, Ran}
-use Rattle.model.specs.Kept.{walk_sound}
+use Rattle.model.proofs.Kept.{walk_sound}
 use Rattle.model.specs.Run.{ran}
 use Rattle.model.specs.Sound.{Sound}
-use Rattle.model.specs.Stopped.{run_is_right}
+use Rattle.model.proofs.Stopped.{run_is_right}
 use Rattle.table.specs.Layout.{agents_in}
 use Rattle.state.specs.Layout.{view}
 use Rattle.sound.specs.Lent.{under}

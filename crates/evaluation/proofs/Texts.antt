@@ -5,7 +5,7 @@ use mathlib.Core.Bool.{true, ◌&&◌}
 use mathlib.Core.List.{List}
 use mathlib.Core.Option.{Option, none, some}
 use native.Mathlib.Omega.{arith}
-use Rattle.model.specs.Kept.{load_sound}
+use Rattle.model.proofs.Kept.{load_sound}
 use Rattle.model.specs.Load.{loaded}
 use Rattle.model.specs.Run.{ran}
 use Rattle.model.specs.Sound.{Sound}
@@ -14,9 +14,9 @@ use Rattle.texts.specs.Books.{Book, Net, word_rules, word_net}
 use Rattle.texts.specs.Bytes.{same}
 use Rattle.texts.specs.Coded.{table_of, machine, load}
 use Rattle.texts.specs.Good.{GoodBook}
-use Rattle.texts.specs.Main.{rule-text-accepted, net-text-accepted, net-loads, table-sound}
+use Rattle.texts.proofs.Main.{rule-text-accepted, net-text-accepted, net-loads, table-sound}
 use Rattle.texts.specs.NetText.{read_net, net_read}
-use Rattle.texts.specs.Proofs.Tools.{same_refl}
+use Rattle.texts.proofs.Beneath.Tools.{same_refl}
 use Rattle.texts.specs.RuleText.{read_rules}
 use Rattle.table.specs.Layout.{agents_in, bytes_of, table_bytes}
 use Rattle.table.specs.Layout as Table

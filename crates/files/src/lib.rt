@@ -1,4 +1,5 @@
 // The text of a file.
+#![tactic(auto)]
 ghost use Rattle.io.specs.Counts.{IsPrefixLen};
 
 // Puts the first bytes of a file at the start of the text, as many as it has room for, and answers how many. A file that can't be opened or read

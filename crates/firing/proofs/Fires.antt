@@ -9,7 +9,7 @@ use Rattle.parts.specs.Sides.{side}
 use Rattle.model.specs.State.{St, st, used, lowest, zeros}
 use Rattle.model.specs.Step.{fired, puts, zero_cell, inst_cell, inst_pair, write_symbols, write_arguments, set_bare}
 use Rattle.model.specs.Step as Step
-use Rattle.model.specs.Lowest.{all_free, as_many}
+use Rattle.model.proofs.Lowest.{all_free, as_many}
 use Rattle.kept.specs.Right.{Right}
 use Rattle.kept.specs.declared.Kept.{Kept}
 use Rattle.state.specs.Moves.{freed}

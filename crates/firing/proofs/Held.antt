@@ -13,8 +13,8 @@ use borrow.Author.Tests.{ltb-true, ltb-false}
 use Rattle.parts.specs.Limits.{arity_max, rule_names_max, rule_cells_max}
 use Rattle.model.specs.State.{zeros}
 use Rattle.model.specs.Step.{quad}
-use Rattle.model.specs.Proofs.Facts.{zeros-length}
-use Rattle.model.specs.Proofs.Store.{sets_at, sets_other}
+use Rattle.model.proofs.Beneath.Facts.{zeros-length}
+use Rattle.model.proofs.Beneath.Store.{sets_at, sets_other}
 use Rattle.firing.specs.Frames.{names_at, cells_at, frame_size, cell_in, four}
 use Rattle.firing.specs.Taken.{name_code, cell_code}
 

@@ -9,8 +9,8 @@ use lib.ListN.{length, get_or, set}
 use lib.Seq.{get_or-set_same, get_or-set_other}
 use borrow.Author.Tests.{ltb-true, ltb-false}
 use Rattle.model.specs.State.{used, lowest}
-use Rattle.model.specs.Proofs.Facts.{used-set}
-use Rattle.model.specs.Proofs.Loops.{lowest-next}
+use Rattle.model.proofs.Beneath.Facts.{used-set}
+use Rattle.model.proofs.Beneath.Loops.{lowest-next}
 use Rattle.state.specs.Moves.{taken, free_from}
 
 -- Where nothing below `low` is free, the lowest free place from there on is the lowest of all.

@@ -4,8 +4,8 @@ use Rattle.std.proofs.Common.{sym, ◌∙◌, arith, length-set, get_or-set_othe
 use Rattle.parts.specs.Limits.{cells_max}
 use Rattle.model.specs.State.{St, used}
 use Rattle.model.specs.Step.{freed}
-use Rattle.model.specs.Proofs.Facts.{used-set}
-use Rattle.model.specs.Proofs.Pool.{in_range}
+use Rattle.model.proofs.Beneath.Facts.{used-set}
+use Rattle.model.proofs.Beneath.Pool.{in_range}
 use Rattle.firing.specs.Fires.{Pairing}
 
 module _ (a b : ℕ) (s : St) (f : Pairing a b s) where

@@ -9,8 +9,8 @@ use Rattle.model.specs.State.{St, listed}
 use Rattle.model.specs.Table.{Table}
 use Rattle.model.specs.Sound.{Sizes, mem_of}
 use Rattle.model.specs.Test.{reached, zeroed, declared, twice, both_ways, unruled, sized, tested}
-use Rattle.model.specs.Proofs.Tested.{sized-sizes, declared_all}
-use Rattle.model.specs.Proofs.Truths as Truths
+use Rattle.model.proofs.Beneath.Tested.{sized-sizes, declared_all}
+use Rattle.model.proofs.Beneath.Truths as Truths
 use Rattle.sound.specs.Lent.{under, Usable, Symbols}
 use Rattle.sound.proofs.Tables.{under-count}
 

@@ -6,7 +6,7 @@ use mathlib.Core.Logic.{◌↔◌}
 use Prim.Native.Nat.{ℕ}
 use native.Mathlib.Omega.{arith}
 use Rattle.model.specs.Test.{tested}
-use Rattle.model.specs.Tested.{tested-sound}
+use Rattle.model.proofs.Tested.{tested-sound}
 use Rattle.table.specs.Given.{Given}
 use Rattle.state.specs.Layout.{view}
 use Rattle.sound.specs.Lent.{under, Usable}

@@ -9,13 +9,13 @@ use lib.ListN.{length, take, drop, length-take, length-drop, drop_of_length-le}
 use lib.Seq.{take-take, length-take-le}
 use mir.Syntax.{w16}
 use mir.Val.{Fits}
-use borrow.Author.Tests.{lt-ltb, le-ltb, ltb-true, ltb-false, leb-true, le-leb, lt-leb, not_true, not-false}
+use borrow.Author.Tests.{lt-ltb, le-ltb, ltb-true, ltb-false, leb-true, le-leb, lt-leb, not-true, not-false}
 use Rattle.parts.specs.Limits.{text_max, identifier_max, net_names_max}
 use Rattle.model.specs.Table.{Cell}
 use Rattle.texts.specs.Bytes.{Word, any, index_of}
 use Rattle.texts.specs.Books.{Agent, declared}
 use Rattle.texts.specs.RuleText.{is_too_long}
-use Rattle.texts.specs.Proofs.Tools.{both, neither, never}
+use Rattle.texts.proofs.Beneath.Tools.{both, neither, never}
 use Rattle.scan.specs.Words.{word_start, word_end, words_in}
 use Rattle.scan.specs.Laws.Wording.{NextWord, no_word}
 use Rattle.terms.specs.Sheet.{Sheet, entered}
@@ -230,4 +230,4 @@ module _ (text : List ℕ) (ags : List Agent) (limit from to : ℕ) where
           entering_more h = record { is = g.is; on = λ cs ws r. stands few cs ws r (rw (not-false t h) at q) }
 
           pub entering_stop : not t ≡ true → Entered text ags limit (between text from to) false s₀ s₁
-          entering_stop h = record { means = λ cs ws r. passes few cs ws r (rw (not_true t h) at q) }
+          entering_stop h = record { means = λ cs ws r. passes few cs ws r (rw (not-true t h) at q) }

@@ -5,17 +5,17 @@ use mathlib.Core.List.{List, [], ◌∷◌, ◌++◌}
 use Prim.Native.Nat.{ℕ, zero, suc, ◌+◌, ◌-◌, ◌<◌, ◌≤◌, pred}
 use native.Mathlib.Omega.{arith}
 use lib.ListN.{length, get_or}
-use Rattle.calculus.specs.Proofs.Count.{δ_same, sum-append}
+use Rattle.calculus.proofs.Beneath.Count.{δ_same, sum-append}
 use Rattle.calculus.specs.Terms.{δ, count, Terms, Eqn}
 use Rattle.parts.specs.Limits.{symbols_max}
 use Rattle.parts.specs.Sides.{cell, Pair, ◌:=◌}
 use Rattle.parts.specs.Sides as Plain
-use Rattle.model.specs.Kept.{step_sound}
-use Rattle.model.specs.Proofs.Bonds.{◌≃◌}
-use Rattle.model.specs.Proofs.Parts.{part}
-use Rattle.model.specs.Proofs.Ranges.{LiveSide, waiting-live}
-use Rattle.model.specs.Proofs.Selves.{picked-out}
-use Rattle.model.specs.Proofs.Stepped.{Finds, FoundAt, finds}
+use Rattle.model.proofs.Kept.{step_sound}
+use Rattle.model.proofs.Beneath.Bonds.{◌≃◌}
+use Rattle.model.proofs.Beneath.Parts.{part}
+use Rattle.model.proofs.Beneath.Ranges.{LiveSide, waiting-live}
+use Rattle.model.proofs.Beneath.Selves.{picked-out}
+use Rattle.model.proofs.Beneath.Stepped.{Finds, FoundAt, finds}
 use Rattle.model.specs.Reading.{Reads, by_cell, ReadsAll, no_pairs, pairs, pool_of}
 use Rattle.model.specs.Rows.{Row, no_rule}
 use Rattle.model.specs.Walk.{one_made}
@@ -23,7 +23,7 @@ use Rattle.model.specs.Sound.{Sound, pool}
 use Rattle.model.specs.State.{St, equation, unpack, pulled, listed}
 use Rattle.model.specs.Step.{Answer, moved, held, picked, place, rule_of, symbol_of, taken_out}
 use Rattle.model.specs.Stepped.{fire_if, meet, stepped}
-use Rattle.model.specs.StepTable.{step-table}
+use Rattle.model.proofs.StepTable.{step-table}
 use Rattle.model.specs.Table.{Cell, Entry, Table, Found, none, straight, turned, no_entry}
 use Rattle.state.specs.Moves.{out_of_waiting, put_on}
 use Rattle.sound.specs.Lent.{under}

@@ -8,7 +8,7 @@ use native.Mathlib.Omega.{arith}
 use lib.Dec.{ltb}
 use borrow.Author.Tests.{ltb-true, ltb-false}
 use Rattle.lent.specs.Both.{given-sound}
-use Rattle.model.specs.Kept.{step_sound}
+use Rattle.model.proofs.Kept.{step_sound}
 use Rattle.model.specs.Run.{stopped, run}
 use Rattle.model.specs.Walk.{Ran, one_made, ended, paused, noroom}
 use Rattle.model.specs.Sound.{Sound}

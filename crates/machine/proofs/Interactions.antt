@@ -15,7 +15,7 @@ use Rattle.model.specs.Stepped as Step
 use Rattle.state.specs.Moves.{out_of_waiting}
 use Rattle.table.specs.Layout.{entry_at, entry_of}
 use Rattle.table.specs.Laws.Lists.{length-tab}
-use Rattle.texts.specs.Proofs.Tools.{both, pair}
+use Rattle.texts.proofs.Beneath.Tools.{both, pair}
 use Rattle.kept.specs.Right.{Right}
 use Rattle.kept.specs.declared.Kept.{Kept}
 use Rattle.firing.specs.Built.{equations_of, cells_of, names_of}

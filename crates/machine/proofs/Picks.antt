@@ -15,7 +15,7 @@ use Rattle.parts.specs.declared.CellNo.{CellNo}
 use Rattle.parts.specs.declared.Side.{Side}
 use Rattle.parts.specs.declared.Side.TheVariants.{Name, Cell}
 use Rattle.lent.specs.Both.{given-sound}
-use Rattle.model.specs.Proofs.Tabled.{acts}
+use Rattle.model.proofs.Beneath.Tabled.{acts}
 use Rattle.model.specs.Walk.{one_made}
 use Rattle.model.specs.State.{St, equation}
 use Rattle.model.specs.Step.{moved, picked, place, rule_at, rule_for, rule_of, taken_out}

@@ -14,8 +14,8 @@ use Rattle.texts.specs.Books.{Agent}
 use Rattle.texts.specs.Bytes.{all, any}
 use Rattle.texts.specs.Coded.{Table, second_from, new_from, arity_at, unpaired}
 use Rattle.texts.specs.TableTest.{test_agents, test_table, test_templates, test_template, pair_test, cell_ok, code_ok, args_all, all_codes}
-use Rattle.texts.specs.Proofs.Clauses.{Clauses, clauses_of}
-use Rattle.texts.specs.Proofs.Tools.{both, all_left, all_right}
+use Rattle.texts.proofs.Beneath.Clauses.{Clauses, clauses_of}
+use Rattle.texts.proofs.Beneath.Tools.{both, all_left, all_right}
 use Rattle.table.specs.Layout.{view, rule_row, rules_in, agents_in, symbol_of, cell_of, equation_of, entry_of, entry_at}
 use Rattle.table.specs.Lists.{tab}
 use Rattle.table.specs.Laws.Lists.{length-tab, tab_at}

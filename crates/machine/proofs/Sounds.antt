@@ -17,15 +17,15 @@ use Rattle.parts.specs.declared.NameNo.{NameNo}
 use Rattle.parts.specs.declared.CellNo.{CellNo}
 use Rattle.parts.specs.declared.Side.{Side}
 use Rattle.parts.specs.declared.Side.TheVariants.{Name, Cell}
-use Rattle.model.specs.Proofs.Ranges.{LiveSide, waiting-live, bond-live}
-use Rattle.model.specs.Proofs.Tabled.{acts}
+use Rattle.model.proofs.Beneath.Ranges.{LiveSide, waiting-live, bond-live}
+use Rattle.model.proofs.Beneath.Tabled.{acts}
 use Rattle.model.specs.Rows.{NoRoom, for_interaction, for_loop, for_joined_loop, Joined}
 use Rattle.model.specs.Sound.{Sound}
 use Rattle.model.specs.SoundTable.{SoundTable}
 use Rattle.model.specs.State.{St, equation, bound}
 use Rattle.model.specs.Step.{refused, picked, place, taken_out}
 use Rattle.model.specs.Stepped.{act, stepped, wire}
-use Rattle.model.specs.Stopped.{refused_13}
+use Rattle.model.proofs.Stopped.{refused_13}
 use Rattle.model.specs.Table.{Table}
 use Rattle.state.specs.Moves.{out_of_waiting, Pullable}
 use Rattle.kept.specs.Right.{Right}

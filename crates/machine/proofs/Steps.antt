@@ -5,7 +5,7 @@ use mathlib.Core.List.{List}
 use mathlib.Core.Logic.{◌↔◌}
 use Prim.Native.Nat.{ℕ, ◌<◌, ◌≤◌}
 use native.Mathlib.Omega.{arith}
-use Rattle.model.specs.Proofs.Runs.{past-answers}
+use Rattle.model.proofs.Beneath.Runs.{past-answers}
 use Rattle.model.specs.State.{St}
 use Rattle.model.specs.Stepped.{stepped}
 use Rattle.state.specs.Layout.{view}

@@ -1,4 +1,5 @@
 // The machine: a step on a picked equation, and a run, on a lent table and a lent state.
+#![tactic(auto)]
 
 pub mod outcome; // outcome.rt: what a step came to
 pub mod meeting; // meeting.rt: two cells: stuck, or an interaction

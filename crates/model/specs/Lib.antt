@@ -1,4 +1,5 @@
 pub mod State
+pub mod Decisions
 pub mod Table
 pub mod Step
 pub mod Follow
@@ -13,14 +14,3 @@ pub mod Walk
 pub mod Rows
 pub mod Agree
 pub mod Test
-pub mod StepTable
-pub mod Kept
-pub mod Demand2
-pub mod Demand3
-pub mod Conservation
-pub mod Stopped
-pub mod AtEnd
-pub mod Tested
-pub mod Lowest
-pub mod Cases
-pub mod Proofs

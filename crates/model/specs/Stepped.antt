@@ -9,7 +9,7 @@ use Rattle.model.specs.Table.{Entry, Table, none, straight, turned}
 use Rattle.model.specs.Step.{Answer, moved, refused, place, picked, taken_out, put, held, fired, rule_of}
 use Rattle.model.specs.Rows.{tie, join, free, count_loop}
 use Rattle.model.specs.Follow.{follow}
-use Rattle.model.specs.Proofs.Decisions.{all_three}
+use Rattle.model.specs.Decisions.{all_three}
 
 -- Room for a rule's right side: none of what number 13 names passes its size (`Passes` in Rows.antt has the words).
 -- Here the picked equation has left the list, so waiting is already less 1.

@@ -1,7 +1,7 @@
 -- The table of agents and rules, and the look-up of a pair.
 use Rattle.std.specs.Prelude.{List, [], ◌∷◌, ℕ, suc, get_or}
 use Rattle.parts.specs.Sides.{Side, Pair}
-use Rattle.model.specs.Proofs.Decisions.{both}
+use Rattle.model.specs.Decisions.{both}
 
 -- "A cell is one agent: a symbol and its arguments."
 pub record Cell : Type 0 where

@@ -7,7 +7,7 @@ use native.Mathlib.Numerals.{add-one}
 use native.Mathlib.Nat.{mul-add}
 use lib.Dec.{eqb}
 use lib.ListN.{get_or}
-use Rattle.calculus.specs.Proofs.Count.{δ_same, δ_other}
+use Rattle.calculus.proofs.Beneath.Count.{δ_same, δ_other}
 use Rattle.parts.specs.Limits.{arity_max, cells_max}
 use Rattle.parts.specs.Sides.{Side, name, cell, side, code}
 use Rattle.parts.specs.Codes.{code-side}

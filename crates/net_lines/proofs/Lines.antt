@@ -15,7 +15,7 @@ use Rattle.texts.specs.Bytes.{keep, fields}
 use Rattle.texts.specs.Books.{Agent, declared}
 use Rattle.texts.specs.Answers.{absent}
 use Rattle.texts.specs.RuleText.{terms_of}
-use Rattle.texts.specs.Proofs.Tools.{never}
+use Rattle.texts.proofs.Beneath.Tools.{never}
 use Rattle.scan.specs.Cutting.{tabs, field_start}
 use Rattle.scan.specs.Words.{words_in}
 use Rattle.scan.specs.Laws.Cutting.{count-cons, start_le}

@@ -1,5 +1,6 @@
 // Runs one net as often as the first argument says, with the budget that the second gives, and prints the interactions of each run: a
 // program to be timed from outside.
+#![tactic(auto)]
 use machine::calls::RunAnswer;
 use parts::Limits;
 use scan::numbers::Number;

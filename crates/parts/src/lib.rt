@@ -1,4 +1,5 @@
 // The parts that every other crate speaks of: the sizes, typed numbers, sides, equations, and the codes of sides.
+#![tactic(auto)]
 ghost use Rattle.std.specs.Prelude.{◌≡◌, ℕ, ◌+◌, ◌*◌, ◌<◌};
 ghost use Rattle.parts.specs.Limits.{text_max, identifier_max, symbols_max, arity_max, rules_max, rule_equations_max, rule_cells_max, rule_names_max, face_max, net_equations_max, net_cells_max, net_names_max, level_max, cells_max, names_max, waiting_max, stuck_max, loops_max, budget_max, agent_size, node_size, rule_size, table_size};
 ghost use Rattle.parts.specs.Sides.{code, side};
@@ -74,29 +75,29 @@ impl Limits {
 
 // The figures of the code are those of the specs page.
 pub fn figures()
-    ensures* do_value { do ⌜ (← (⟦Limits::TEXT⟧).entry) ≡ text_max ⌝ }
-    ensures* do_value_2 { do ⌜ (← (⟦Limits::IDENTIFIER⟧).entry) ≡ identifier_max ⌝ }
-    ensures* do_value_3 { do ⌜ (← (⟦Limits::SYMBOLS⟧).entry) ≡ symbols_max ⌝ }
-    ensures* do_value_4 { do ⌜ (← (⟦Limits::ARITY⟧).entry) ≡ arity_max ⌝ }
-    ensures* do_value_5 { do ⌜ (← (⟦Limits::RULES⟧).entry) ≡ rules_max ⌝ }
-    ensures* do_value_6 { do ⌜ (← (⟦Limits::RULE_EQUATIONS⟧).entry) ≡ rule_equations_max ⌝ }
-    ensures* do_value_7 { do ⌜ (← (⟦Limits::RULE_CELLS⟧).entry) ≡ rule_cells_max ⌝ }
-    ensures* do_value_8 { do ⌜ (← (⟦Limits::RULE_NAMES⟧).entry) ≡ rule_names_max ⌝ }
-    ensures* do_value_9 { do ⌜ (← (⟦Limits::FACE⟧).entry) ≡ face_max ⌝ }
-    ensures* do_value_10 { do ⌜ (← (⟦Limits::NET_EQUATIONS⟧).entry) ≡ net_equations_max ⌝ }
-    ensures* do_value_11 { do ⌜ (← (⟦Limits::NET_CELLS⟧).entry) ≡ net_cells_max ⌝ }
-    ensures* do_value_12 { do ⌜ (← (⟦Limits::NET_NAMES⟧).entry) ≡ net_names_max ⌝ }
-    ensures* do_value_13 { do ⌜ (← (⟦Limits::LEVEL⟧).entry) ≡ level_max ⌝ }
-    ensures* do_value_14 { do ⌜ (← (⟦Limits::CELLS⟧).entry) ≡ cells_max ⌝ }
-    ensures* do_value_15 { do ⌜ (← (⟦Limits::NAMES⟧).entry) ≡ names_max ⌝ }
-    ensures* do_value_16 { do ⌜ (← (⟦Limits::WAITING⟧).entry) ≡ waiting_max ⌝ }
-    ensures* do_value_17 { do ⌜ (← (⟦Limits::STUCK⟧).entry) ≡ stuck_max ⌝ }
-    ensures* do_value_18 { do ⌜ (← (⟦Limits::LOOPS⟧).entry) ≡ loops_max ⌝ }
-    ensures* do_value_19 { do ⌜ (← (⟦Limits::BUDGET⟧).entry) ≡ budget_max ⌝ }
-    ensures* do_value_20 { do ⌜ (← (⟦Limits::AGENT⟧).entry) ≡ agent_size ⌝ }
-    ensures* do_value_21 { do ⌜ (← (⟦Limits::NODE⟧).entry) ≡ node_size ⌝ }
-    ensures* do_value_22 { do ⌜ (← (⟦Limits::RULE⟧).entry) ≡ rule_size ⌝ }
-    ensures* do_value_23 { do ⌜ (← (⟦Limits::TABLE⟧).entry) ≡ table_size ⌝ }
+    ensures text { Limits.TEXT ≡ text_max }
+    ensures identifier { Limits.IDENTIFIER ≡ identifier_max }
+    ensures symbols { Limits.SYMBOLS ≡ symbols_max }
+    ensures arity { Limits.ARITY ≡ arity_max }
+    ensures rules { Limits.RULES ≡ rules_max }
+    ensures rule_equations { Limits.RULE_EQUATIONS ≡ rule_equations_max }
+    ensures rule_cells { Limits.RULE_CELLS ≡ rule_cells_max }
+    ensures rule_names { Limits.RULE_NAMES ≡ rule_names_max }
+    ensures face { Limits.FACE ≡ face_max }
+    ensures net_equations { Limits.NET_EQUATIONS ≡ net_equations_max }
+    ensures net_cells { Limits.NET_CELLS ≡ net_cells_max }
+    ensures net_names { Limits.NET_NAMES ≡ net_names_max }
+    ensures level { Limits.LEVEL ≡ level_max }
+    ensures cells { Limits.CELLS ≡ cells_max }
+    ensures names { Limits.NAMES ≡ names_max }
+    ensures waiting { Limits.WAITING ≡ waiting_max }
+    ensures stuck { Limits.STUCK ≡ stuck_max }
+    ensures loops { Limits.LOOPS ≡ loops_max }
+    ensures budget { Limits.BUDGET ≡ budget_max }
+    ensures agent { Limits.AGENT ≡ agent_size }
+    ensures node { Limits.NODE ≡ node_size }
+    ensures rule { Limits.RULE ≡ rule_size }
+    ensures table { Limits.TABLE ≡ table_size }
 {}
 
 // The number of a name, of a cell and of a symbol: three types, so that none stands in for another.

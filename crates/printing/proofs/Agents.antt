@@ -9,7 +9,7 @@ use Rattle.parts.specs.Sides.{Side, cell, side}
 use Rattle.parts.specs.declared.CellNo.{CellNo}
 use Rattle.model.specs.State.{St, used}
 use Rattle.model.specs.Sound.{mem_of, width}
-use Rattle.model.specs.Proofs.Ranges.{LiveSide, argument_live}
+use Rattle.model.proofs.Beneath.Ranges.{LiveSide, argument_live}
 use Rattle.table.specs.Layout.{agents_in}
 use Rattle.state.specs.Layout.{view}
 use Rattle.state.specs.declared.Part.TheVariants.{Arguments}
@@ -18,7 +18,7 @@ use Rattle.sound.proofs.Tables.{under-count}
 use Rattle.lent.specs.Both.{usable, sound_table_lem, sound-state}
 use Rattle.answers.specs.Text.{spelling}
 use Rattle.answers.specs.Printing.{pen, Written, around, close, sides_bytes}
-use Rattle.answers.specs.PrintingLaws.{cell_none, cell_some}
+use Rattle.answers.proofs.PrintingLaws.{cell_none, cell_some}
 use Rattle.printing.specs.Puts.{Puts, far, letters, name_long}
 use Rattle.printing.specs.Prints.{held, Prints, Stands, Begins, Begun, closing, Ready, span, Row, cell_of, sides_of}
 use Rattle.printing.specs.declared.terms.Cursor.{Cursor}

@@ -13,11 +13,11 @@ use Rattle.parts.specs.declared.Side.TheVariants as Typed
 use Rattle.parts.specs.declared.NameNo.{NameNo}
 use Rattle.parts.specs.declared.CellNo.{CellNo}
 use Rattle.model.specs.State.{St, bond, to}
-use Rattle.model.specs.Proofs.Ranges.{LiveSide}
+use Rattle.model.proofs.Beneath.Ranges.{LiveSide}
 use Rattle.answers.specs.Text.{numeral}
 use Rattle.answers.specs.Printing.{numbered, numbered_both}
-use Rattle.answers.specs.PrintingLaws.{side-cell, side-known, side-bare, side-joined, side_tied}
-use Rattle.answers.specs.Proofs.Live.{bonds-live}
+use Rattle.answers.proofs.PrintingLaws.{side-cell, side-known, side-bare, side-joined, side_tied}
+use Rattle.answers.proofs.Beneath.Live.{bonds-live}
 use Rattle.printing.specs.Puts.{Puts}
 use Rattle.printing.specs.Prints.{Prints, Looks, Stands, closing, one_name, two_names}
 use Rattle.printing.specs.declared.terms.Cursor.{Cursor}

@@ -14,8 +14,8 @@ use Rattle.parts.specs.declared.NameNo.{NameNo}
 use Rattle.parts.specs.declared.CellNo.{CellNo}
 use Rattle.model.specs.State.{St}
 use Rattle.model.specs.Sound.{Sizes, mem_of, width}
-use Rattle.model.specs.Proofs.Cellwork.{width_small}
-use Rattle.model.specs.Proofs.Ranges.{LiveSide}
+use Rattle.model.proofs.Beneath.Cellwork.{width_small}
+use Rattle.model.proofs.Beneath.Ranges.{LiveSide}
 use Rattle.table.specs.Layout.{agents_in}
 use Rattle.state.specs.Layout.{view}
 use Rattle.state.specs.Places.{size, words}
@@ -25,7 +25,7 @@ use Rattle.sound.specs.Lent.{under}
 use Rattle.lent.specs.Both.{BothSound, sound_table_lem, sound-state}
 use Rattle.answers.specs.Text.{numeral}
 use Rattle.answers.specs.Printing.{Pen, Fits, Written, written, side_bytes, sides_bytes}
-use Rattle.answers.specs.PrintingLaws.{side-falls, sides_none, sides_more, next-below, side-kept}
+use Rattle.answers.proofs.PrintingLaws.{side-falls, sides_none, sides_more, next-below, side-kept}
 use Rattle.printing.specs.Puts.{Puts, name_long}
 use Rattle.printing.specs.Prints.{held, Prints, Stands, Ready, Leaf, span, Row, one_name, two_names, met_bytes, LiveMet, Looks, side_of, cell_of, sides_of}
 use Rattle.printing.specs.declared.terms.Cursor.{Cursor}

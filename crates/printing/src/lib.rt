@@ -1,4 +1,5 @@
 // The answer printer: it stores a byte only where the output has a place for it, so that a run on any output measures the answer.
+#![tactic(auto)]
 
 pub mod leaves; // leaves.rt: bytes, letters of a symbol, and the number of a name
 pub mod terms; // terms.rt: sides and cells

@@ -8,7 +8,7 @@ use lib.ListN.{length, set, drop, length-append, drop_of_length-le}
 use lib.Seq.{sets, sets-eq, set-append_left, length-sets}
 use Rattle.parts.specs.Limits.{symbols_max, rules_max, agent_size, rule_size}
 use Rattle.model.specs.Table.{Entry, none, find}
-use Rattle.model.specs.Proofs.Decisions.{both}
+use Rattle.model.specs.Decisions.{both}
 use Rattle.texts.specs.Books.{Agent}
 use Rattle.texts.specs.Coded.{Table}
 use Rattle.table.specs.Lists.{blocks, row_of}

@@ -5,7 +5,7 @@ use mathlib.Core.List.{List, [], ◌∷◌, ◌++◌}
 use native.Mathlib.Omega.{arith}
 use lib.ListN.{length}
 use Rattle.model.specs.Table.{Entry, Found, none, straight, turned, find}
-use Rattle.model.specs.Proofs.Decisions.{both}
+use Rattle.model.specs.Decisions.{both}
 
 -- The first that finds something.
 abbrev pub or_else : Found → Found → Found

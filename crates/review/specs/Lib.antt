@@ -1,14 +1,6 @@
-pub mod Answered
-pub mod Bench
-pub mod Demand1
-pub mod Demand1Texts
-pub mod Demand2
-pub mod Demand3
 pub mod Examples
 pub mod Loads
 pub mod Picks
-pub mod Program
 pub mod Promises
 pub mod Rulebook
 pub mod Words
-pub mod Proofs

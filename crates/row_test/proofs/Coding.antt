@@ -17,7 +17,7 @@ use Rattle.texts.specs.Bytes.{all, keep}
 use Rattle.texts.specs.Books.{Agent}
 use Rattle.texts.specs.Coded.{second_from, new_from, arity_at, unpaired}
 use Rattle.texts.specs.TableTest.{args_all, all_codes, same_side, tally, standing}
-use Rattle.texts.specs.Proofs.Tools.{keep_append}
+use Rattle.texts.proofs.Beneath.Tools.{keep_append}
 use Rattle.table.specs.Lists.{tab, each}
 use Rattle.table.specs.Layout.{sides_in, nodes_in, agents_in, symbol_of, equation_of, cell_of, entry_of}
 use Rattle.row_test.specs.Row.{RowFits, side_fits, code_fits, one_if, sides_max, side_bytes, arg_bytes}

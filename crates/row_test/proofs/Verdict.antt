@@ -14,7 +14,7 @@ use Rattle.texts.specs.Bytes.{all}
 use Rattle.texts.specs.Books.{Agent}
 use Rattle.texts.specs.Coded.{second_from, new_from, arity_at}
 use Rattle.texts.specs.TableTest.{agent_ok, cell_ok, code_ok, all_codes, standing, is_two_sided, test_template}
-use Rattle.texts.specs.Proofs.Tools.{both}
+use Rattle.texts.proofs.Beneath.Tools.{both}
 use Rattle.table.specs.Lists.{tab, each}
 use Rattle.table.specs.Layout.{agents_in, symbol_of, equation_of, cell_of, entry_of}
 use Rattle.row_test.specs.Row.{RowFits, side_fits, sizes_fit, sides_fit, walked}

@@ -14,7 +14,7 @@ use Rattle.parts.specs.Sides.{Side, name, cell, side}
 use Rattle.model.specs.Table.{Cell}
 use Rattle.texts.specs.Coded.{new_from}
 use Rattle.texts.specs.TableTest.{same_side, ahead, onward, head_is, rest, void, walk, met, numbered}
-use Rattle.texts.specs.Proofs.Tools.{both}
+use Rattle.texts.proofs.Beneath.Tools.{both}
 use Rattle.table.specs.Lists.{tab}
 use Rattle.table.specs.Layout.{agents_in, cell_of, entry_of}
 use Rattle.row_test.specs.Row.{RowFits, walked, sides_max, side_bytes, arg_bytes, arity_in}

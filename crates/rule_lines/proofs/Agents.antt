@@ -15,11 +15,11 @@ use Rattle.texts.specs.Answers.{need, refuse}
 use Rattle.texts.specs.Coded.{Table, table_of}
 use Rattle.texts.specs.RuleText.{agent_shape, record_of, ruleless, is_too_long, big_record, big_book, fault5, fault6, fault7, fault8, fault9, fault10, judged}
 use Rattle.texts.specs.Good.{GoodBook}
-use Rattle.texts.specs.Proofs.Shapes.{Fits}
-use Rattle.texts.specs.Proofs.Shapes.{to_shape}
-use Rattle.texts.specs.Proofs.RuleMeans.{Sized, good-sized}
-use Rattle.texts.specs.Proofs.Forward.{table_pass}
-use Rattle.texts.specs.Proofs.Tools.{neither}
+use Rattle.texts.proofs.Beneath.Shapes.{Fits}
+use Rattle.texts.proofs.Beneath.Shapes.{to_shape}
+use Rattle.texts.proofs.Beneath.RuleMeans.{Sized, good-sized}
+use Rattle.texts.proofs.Beneath.Forward.{table_pass}
+use Rattle.texts.proofs.Beneath.Tools.{neither}
 use Rattle.table.specs.Layout.{agents_in, bytes_of, table_bytes}
 use Rattle.table.specs.Put.{agent, with_agent}
 use Rattle.table.specs.Laws.Whole.{FitAgents, tested-fits}

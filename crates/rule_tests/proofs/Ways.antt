@@ -13,7 +13,7 @@ use Rattle.texts.specs.Bytes.{Word, any, keep, among, times, different, fields}
 use Rattle.texts.specs.Terms.{Term, nodes}
 use Rattle.texts.specs.Books.{Agent, Book, Rule, is_rule, declared, cells_of, head_of, lefts, rights, new_names_of}
 use Rattle.texts.specs.RuleText.{big_node, wrong_args, over_names, terms_of, fault5, fault7, fault8}
-use Rattle.texts.specs.Proofs.Reader.{term_of}
+use Rattle.texts.specs.Reader.{term_of}
 use Rattle.scan.specs.Cutting.{field_start}
 use Rattle.scan.specs.Words.{words_in}
 use Rattle.terms.specs.Agents.{agents_of}

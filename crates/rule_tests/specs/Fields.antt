@@ -4,7 +4,7 @@ use Rattle.std.proofs.Math.Option.{some}
 use Rattle.texts.specs.Bytes.{Word, fields}
 use Rattle.texts.specs.Books.{Rule, rights}
 use Rattle.texts.specs.RuleText.{terms_of}
-use Rattle.texts.specs.Proofs.Reader.{term_of}
+use Rattle.texts.specs.Reader.{term_of}
 
 -- They spell the rule r.
 pub record Fields (l : List ℕ) (r : Rule) : Type 0 where

@@ -5,7 +5,7 @@ ghost use Rattle.texts.specs.Bytes.{any};
 ghost use Rattle.texts.specs.Terms.{Term, nodes};
 ghost use Rattle.texts.specs.Books as Books;
 ghost use Rattle.texts.specs.RuleText.{wrong_args, over_names, fault7, fault8};
-ghost use Rattle.texts.specs.Proofs.Reader.{term_of};
+ghost use Rattle.texts.specs.Reader.{term_of};
 ghost use Rattle.scan.specs.Words.{words_in};
 ghost use Rattle.terms.specs.Agents.{agents_of};
 ghost use Rattle.rule_tests.specs.Fields.{Fields};

@@ -7,7 +7,7 @@ use Rattle.texts.specs.Answers.{fine}
 use Rattle.texts.specs.RuleText.{ruleless, rule_line}
 use Rattle.texts.specs.Good.{Placed, Good, GoodFrom, GoodBook}
 use Rattle.rule_lines.specs.Laws.{no_rules}
-use Rattle.texts.specs.Proofs.RuleMeans.{add_all, add-agents, add-rules, rule_line-fine}
+use Rattle.texts.proofs.Beneath.RuleMeans.{add_all, add-agents, add-rules, rule_line-fine}
 
 agents-snoc : (xs : List Agent) (a : Agent) → map is_agent (xs ++ (a ∷ [])) ≡ map is_agent xs ++ (is_agent a ∷ [])
 agents-snoc [] a = refl

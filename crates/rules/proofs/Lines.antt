@@ -14,13 +14,13 @@ use Rattle.texts.specs.Books.{Book, Rule, is_rule, add, pairs, lefts, rights}
 use Rattle.texts.specs.Answers.{OfLine, fault, absent, need, refuse, ◌>>=◌}
 use Rattle.texts.specs.RuleText.{Shape, agent_shape, rule_shape, even, ruleless, shape_of, shape, terms_of, record_of, judged, rule_line}
 use Rattle.texts.specs.Good.{GoodBook}
-use Rattle.texts.specs.Proofs.Shapes.{Fits, shape_fields}
-use Rattle.texts.specs.Proofs.Reader.{term_of}
-use Rattle.texts.specs.Proofs.Tools.{never, never'}
-use Rattle.texts.specs.Proofs.Shapes.{to_shape}
-use Rattle.texts.specs.Proofs.Splitting.{ended_line}
-use Rattle.texts.specs.Proofs.Passes.{rule-absent, terms-absent}
-use Rattle.texts.specs.Proofs.Means.{spell-terms, sides-pairs, even-map}
+use Rattle.texts.proofs.Beneath.Shapes.{Fits, shape_fields}
+use Rattle.texts.specs.Reader.{term_of}
+use Rattle.texts.proofs.Beneath.Tools.{never, never'}
+use Rattle.texts.proofs.Beneath.Shapes.{to_shape}
+use Rattle.texts.proofs.Beneath.Splitting.{ended_line}
+use Rattle.texts.proofs.Beneath.Passes.{rule-absent, terms-absent}
+use Rattle.texts.proofs.Beneath.Means.{spell-terms, sides-pairs, even-map}
 use Rattle.scan.specs.Places.{bad_at}
 use Rattle.scan.specs.Laws.Placing.{bad-fault}
 use Rattle.table.specs.Layout.{rules_in, table_bytes}

@@ -13,8 +13,8 @@ use Rattle.texts.specs.Answers.{OfText, fault, refuse, read_lines}
 use Rattle.texts.specs.Coded.{table_of}
 use Rattle.texts.specs.RuleText.{rule_line}
 use Rattle.texts.specs.Good.{GoodBook}
-use Rattle.texts.specs.Proofs.Splitting.{ended_line}
-use Rattle.texts.specs.Proofs.Reading.{read-fine, read-fault}
+use Rattle.texts.proofs.Beneath.Splitting.{ended_line}
+use Rattle.texts.proofs.Beneath.Reading.{read-fine, read-fault}
 use Rattle.scan.specs.Cutting.{next_line}
 use Rattle.scan.specs.Laws.Cutting.{ended_line_lem, unended_line, no_line}
 use Rattle.scan.specs.declared.cutting.NextLine.{NextLine}

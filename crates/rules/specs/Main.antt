@@ -8,7 +8,7 @@ use Rattle.texts.specs.Answers.{OfText, accepted, refused}
 use Rattle.texts.specs.RuleText.{read_rules}
 use Rattle.texts.specs.Refused.{RulesRefused}
 use Rattle.texts.specs.Good.{GoodBook}
-use Rattle.texts.specs.Main as Texts
+use Rattle.texts.proofs.Main as Texts
 use Rattle.table.specs.Layout.{table_bytes}
 use Rattle.table.specs.Given.{Given}
 use Rattle.rules.specs.Answer.{Refusal, refusal, Leaves, leaves, leaves_by, rules_read}

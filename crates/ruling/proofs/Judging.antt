@@ -15,12 +15,12 @@ use Rattle.texts.specs.Answers.{fine, refuse, ◌>>=◌}
 use Rattle.texts.specs.RuleText.{big_node, terms_of, fault5, fault6, fault7, fault8, fault9, fault10, judged}
 use Rattle.texts.specs.Coded.{Table, table_of, template, symbol_of}
 use Rattle.texts.specs.Good.{GoodBook}
-use Rattle.texts.specs.Proofs.RuleSound.{SoundRule, faults_sound}
-use Rattle.texts.specs.Proofs.Reader.{term_of}
-use Rattle.texts.specs.Proofs.Tools.{never, found}
-use Rattle.texts.specs.Proofs.Agents.{agents-tested, symbol-number}
-use Rattle.texts.specs.Proofs.BookSound.{good-sound}
-use Rattle.texts.specs.Proofs.RuleMeans.{Sized, good-sized}
+use Rattle.texts.proofs.Beneath.RuleSound.{SoundRule, faults_sound}
+use Rattle.texts.specs.Reader.{term_of}
+use Rattle.texts.proofs.Beneath.Tools.{never, found}
+use Rattle.texts.proofs.Beneath.Agents.{agents-tested, symbol-number}
+use Rattle.texts.proofs.Beneath.BookSound.{good-sound}
+use Rattle.texts.proofs.Beneath.RuleMeans.{Sized, good-sized}
 use Rattle.scan.specs.Cutting.{field_start}
 use Rattle.table.specs.declared.Rule.{Rule as Coded}
 use Rattle.table.specs.Layout.{agents_in, rules_in, equation_of, entry_of, bytes_of, table_bytes}

@@ -11,7 +11,7 @@ use lib.Dec.{eqb, eqb-zero-suc, eqb-suc-suc}
 use borrow.Author.Tests.{eq-eqb, ne_eqb}
 use Rattle.texts.specs.Bytes.{same, all, letter, word_byte}
 use Rattle.texts.specs.Terms.{identifier, symbol}
-use Rattle.texts.specs.Proofs.Tools.{same_eq}
+use Rattle.texts.proofs.Beneath.Tools.{same_eq}
 use Rattle.scan.specs.Places.{place}
 use Rattle.scan.specs.Words.{heads, word_end, word_stop}
 use Rattle.scan.specs.Laws.Placing.{place_all}

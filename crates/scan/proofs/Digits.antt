@@ -11,7 +11,7 @@ use lib.Seq.{drop-cons}
 use lib.Dec.{eqb, leb}
 use borrow.Author.Tests.{eq-eqb, ne_eqb, le-leb, lt-leb, leb-true}
 use Rattle.texts.specs.Bytes.{all, digit, is_number, value, number_of}
-use Rattle.texts.specs.Proofs.Tools.{both, pair}
+use Rattle.texts.proofs.Beneath.Tools.{both, pair}
 use Rattle.scan.specs.Numbers.{Digits, digits_end}
 use Rattle.scan.specs.Laws.Placing.{place_le, place_all}
 

@@ -16,7 +16,7 @@ use Rattle.texts.specs.Terms.{symbol}
 use Rattle.texts.specs.Books.{Agent, declared}
 use Rattle.texts.specs.Coded.{Table}
 use Rattle.texts.specs.TableTest.{agent_ok, test_agents}
-use Rattle.texts.specs.Proofs.Tools.{both}
+use Rattle.texts.proofs.Beneath.Tools.{both}
 use Rattle.table.specs.Lists.{tab, each}
 use Rattle.table.specs.Layout.{agents_at, agent_row, word, agent_of, agent_at, agents_in, bytes_of}
 use Rattle.table.specs.Put.{no_table, only_agents, agent, with_agent}

@@ -9,7 +9,7 @@ use borrow.Author.Count.{below_none, below_more}
 use lib.ListN.{length, get_or}
 use lib.Seq.{ext_get_or}
 use lib.Dec.{eqb, leb}
-use borrow.Author.Tests.{eq-eqb, eqb-true, le-leb, leb-true, not_true}
+use borrow.Author.Tests.{eq-eqb, eqb-true, le-leb, leb-true, not-true}
 use Rattle.parts.specs.Limits.{symbols_max, rules_max, rule_size, table_size}
 use Rattle.model.specs.Table.{Entry, none, find}
 use Rattle.model.specs.Table as Model
@@ -17,10 +17,10 @@ use Rattle.texts.specs.Bytes.{any}
 use Rattle.texts.specs.Books.{Agent}
 use Rattle.texts.specs.Coded.{Table, table_of}
 use Rattle.texts.specs.TableTest.{test_agents, pair_test, test_template, test_templates, test_table}
-use Rattle.texts.specs.Proofs.Tools.{both, pair}
-use Rattle.texts.specs.Proofs.BookSound.{sound_table_lem}
-use Rattle.texts.specs.Proofs.Exact.{test_sound}
-use Rattle.texts.specs.Proofs.Clauses.{clauses_of}
+use Rattle.texts.proofs.Beneath.Tools.{both, pair}
+use Rattle.texts.proofs.Beneath.BookSound.{sound_table_lem}
+use Rattle.texts.proofs.Beneath.Exact.{test_sound}
+use Rattle.texts.proofs.Beneath.Clauses.{clauses_of}
 use Rattle.table.specs.Lists.{tab, each}
 use Rattle.table.specs.Layout.{agents_in, rules_in, rule_row, entry_of, entry_at, view, bytes_of, table_bytes}
 use Rattle.table.specs.Put.{no_table, only_agents, with_rule}
@@ -129,7 +129,7 @@ module _ (w o₀ o r : List ℕ) (n k : ℕ) (f : RulesWait w o₀) (en : n ≡ 
     passes = both (test_template (agents_in w) (entry_of (agents_in w) r)) (not (any (pair_test (get_or r 0 0) (get_or r 1 0)) (tab k (entry_at w)))) (sym (eb (Part w k) g.made) ∙ e)
 
     fresh : find (tab k (entry_at w)) 0 (get_or r 0 0) (get_or r 1 0) ≡ none
-    fresh = none_found (find (tab k (entry_at w)) 0 (get_or r 0 0) (get_or r 1 0)) (sym (found-any (tab k (entry_at w)) 0 (get_or r 0 0) (get_or r 1 0)) ∙ not_true _ passes.1)
+    fresh = none_found (find (tab k (entry_at w)) 0 (get_or r 0 0) (get_or r 1 0)) (sym (found-any (tab k (entry_at w)) 0 (get_or r 0 0) (get_or r 1 0)) ∙ not-true _ passes.1)
 
     pub ruling_room : length r ≡ rule_size
         → (length (agents_in o) ≤ symbols_max) × (rules_in o < rules_max) × (length r ≡ rule_size) × (get_or r 0 0 < symbols_max) × (get_or r 1 0 < symbols_max)

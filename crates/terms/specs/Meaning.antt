@@ -5,7 +5,7 @@ use Rattle.parts.specs.Limits.{text_max, arity_max, net_cells_max, net_names_max
 use Rattle.parts.specs.Sides.{Side, name, cell, code}
 use Rattle.texts.specs.Bytes.{Word, any, all, among, index_of, word_byte}
 use Rattle.texts.specs.Terms.{Term, Terms, nodes}
-use Rattle.texts.specs.Proofs.Reader.{term_of}
+use Rattle.texts.specs.Reader.{term_of}
 use Rattle.texts.specs.Books.{Agent, cells_of, names_of}
 use Rattle.texts.specs.RuleText.{big_node}
 use Rattle.model.specs.Table.{Cell}

@@ -18,16 +18,16 @@ Argued ags ts = (n : Node) → In n (nodes ts) → n.args ≡ takes ags n.word
 -- 8: "a left field is not an agent over different names, or a name occurs the wrong number of times".
 pub record WellNamed (ags : List Agent) (r : Rule) : Type 0 where
   -- "both left fields are agents
-  pub first-agent : declared ags (head_of r.first) ≡ true
-  pub second-agent : declared ags (head_of r.second) ≡ true
+  pub first_agent : declared ags (head_of r.first) ≡ true
+  pub second_agent : declared ags (head_of r.second) ≡ true
   -- whose arguments are names, all different;
-  pub names : (w : Word) → In w (leftArgs r) → declared ags w ≡ false
-  pub distinct : Distinct (leftArgs r)
+  pub names : (w : Word) → In w (left_args r) → declared ags w ≡ false
+  pub distinct : Distinct (left_args r)
   -- each of these occurs once on the right; any other name on the right occurs twice there"
   pub once : (w : Word) → In w (left_args r) → times w (names_of ags (rights r)) ≡ 1
   pub twice : (w : Word) → In w (names_of ags (rights r)) → ¬ In w (left_args r) → times w (names_of ags (rights r)) ≡ 2
 
--- 10: "a symbol's rule with itself is one-sided". "A rule of a symbol with itself must read the same from both sides".
+-- 10: "a symbol's rule with itself is one_sided". "A rule of a symbol with itself must read the same from both sides".
 -- x and y stand at the same place of two lists.
 pub data Across : List Word → List Word → Word → Word → Type 0 where
   here : {x y : Word} {xs ys : List Word} → Across (x ∷ xs) (y ∷ ys) x y
@@ -45,8 +45,8 @@ Paired r x y =
 
 pub record BothWays (ags : List Agent) (r : Rule) : Type 0 where
   -- "its right side has no agents and no new names,
-  pub no-agents : cells_of ags (rights r) ≡ []
-  pub no-new : newNames ags r ≡ []
+  pub no_agents : cells_of ags (rights r) ≡ []
+  pub no_new : new_names_of ags r ≡ []
   -- and its set of unordered pairs is unchanged when the two left argument lists change places"
   pub unchanged : (x y x' y' : Word) → Opposite r x x' → Opposite r y y' → Paired r x y ↔ Paired r x' y'
 

@@ -2,6 +2,7 @@ pub mod Bytes
 pub mod Terms
 pub mod Books
 pub mod Answers
+pub mod Reader
 pub mod RuleText
 pub mod NetText
 pub mod Coded
@@ -10,7 +11,3 @@ pub mod TableTest
 pub mod Refused
 pub mod Good
 pub mod Conditions
-pub mod Words
-pub mod Proofs
-pub mod Main
-pub mod Examples

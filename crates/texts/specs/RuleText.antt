@@ -6,7 +6,7 @@ use Rattle.texts.specs.Bytes.{Word, Line, any, all, same, among, times, index_of
 use Rattle.texts.specs.Terms.{Term, symbol, Node, nodes}
 use Rattle.texts.specs.Books.{Agent, Rule, Equation, Book, Record, is_agent, is_rule, add, no_book, declared, takes, cells_of, names_of, lefts, rights, pairs, head_of, args_of, left_args, new_names_of, word_rules, word_agent, word_rule}
 use Rattle.texts.specs.Answers.{OfLine, fine, OfText, accepted, refused, absent, need, ◌>>=◌, refuse, read_lines, after, after_line}
-use Rattle.texts.specs.Proofs.Reader.{term_of}
+use Rattle.texts.specs.Reader.{term_of}
 
 -- 3: "wrong, missing or misplaced record; wrong field count; bad number". What a line is, before its terms are read.
 -- The header's two counts: of the upper part of the text (agents; the terms of `face`), and of the lower part (rules;
@@ -144,7 +144,7 @@ unfoldable pub fault9 : Book → Record → Bool
 fault9 b (is_agent a) = false
 fault9 b (is_rule r) = any (same_pair r) b.rules
 
--- 10: "a symbol's rule with itself is one-sided". Two-sided: "its right side has no agents and no new names, and its
+-- 10: "a symbol's rule with itself is one_sided". Two-sided: "its right side has no agents and no new names, and its
 -- set of unordered pairs is unchanged when the two left argument lists change places".
 pub record Wire : Type 0 where
   pub one : Word

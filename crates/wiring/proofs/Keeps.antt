@@ -14,7 +14,7 @@ use Rattle.parts.specs.declared.NameNo.{NameNo}
 use Rattle.parts.specs.declared.CellNo.{CellNo}
 use Rattle.parts.specs.declared.Side.{Side}
 use Rattle.parts.specs.declared.Side.TheVariants.{Name, Cell}
-use Rattle.model.specs.Proofs.Facts.{used-set}
+use Rattle.model.proofs.Beneath.Facts.{used-set}
 use Rattle.model.specs.State.{St, used}
 use Rattle.state.specs.Places.{stored}
 use Rattle.state.specs.declared.Part.TheVariants.{Names}

@@ -6,8 +6,8 @@ use Rattle.texts.specs.Books as Books
 use Rattle.texts.specs.RuleText.{fault9}
 use Rattle.texts.specs.Coded.{template, table_of}
 use Rattle.texts.specs.TableTest.{pair_test}
-use Rattle.texts.specs.Proofs.RuleSound.{SoundRule}
-use Rattle.texts.specs.Proofs.PairTable.{pair-table}
+use Rattle.texts.proofs.Beneath.RuleSound.{SoundRule}
+use Rattle.texts.proofs.Beneath.PairTable.{pair-table}
 
 -- Number 9 is given exactly where the table of the book has the pair.
 pub pair-fault : (b : Book) (r : Books.Rule) → SoundRule b.agents r → ((q : Books.Rule) → In q b.rules → SoundRule b.agents q)

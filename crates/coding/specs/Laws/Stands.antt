@@ -15,7 +15,7 @@ use Rattle.texts.specs.Bytes.{Word, all}
 use Rattle.texts.specs.Books.{Agent}
 use Rattle.texts.specs.Coded.{second_from, new_from, arity_at, unpaired}
 use Rattle.texts.specs.TableTest.{agent_ok, cell_ok, code_ok, args_all, all_codes}
-use Rattle.texts.specs.Proofs.Tools.{both, all_left, all_right, all_mono}
+use Rattle.texts.proofs.Beneath.Tools.{both, all_left, all_right, all_mono}
 use Rattle.table.specs.declared.Rule.{Rule}
 use Rattle.table.specs.Lists.{tab}
 use Rattle.table.specs.Layout.{sides_in, nodes_in, equation_of, symbol_of, cell_of, entry_of, rule_bytes}

@@ -1,14 +1,14 @@
 -- What the place of number 5 means: it is below the length exactly where an identifier is too long or too deep.
 use Rattle.std.specs.Prelude.{ℕ, zero, suc, ◌+◌, ◌-◌, ◌≤◌, ◌<◌, ◌≡◌, refl, Bool, true, false, cond, ◌&&◌, ◌||◌, List, [], ◌∷◌, ◌++◌, length, eqb, ltb, leb}
 use Rattle.std.proofs.Common.{sym, ap, ◌∙◌, arith, zero-add, add-one, length-append, lt-ltb, le-ltb, leb-true, leb-false, ne_eqb}
-use Rattle.std.proofs.Math.Bool.{or_true}
+use Rattle.std.proofs.Math.Bool.{or-true}
 use Rattle.std.proofs.Math.Dec.{leb-suc-suc}
 use Rattle.parts.specs.Limits.{identifier_max, level_max}
 use Rattle.texts.specs.Bytes.{Word, any, letter, digit, word_byte}
 use Rattle.texts.specs.RuleText.{is_too_long}
-use Rattle.texts.specs.Proofs.Walk.{Met, depth, met, walk}
-use Rattle.texts.specs.Proofs.Passes.{big_met}
-use Rattle.texts.specs.Proofs.Tools.{never, never', any_append}
+use Rattle.texts.proofs.Beneath.Walk.{Met, depth, met, walk}
+use Rattle.texts.proofs.Beneath.Passes.{big_met}
+use Rattle.texts.proofs.Beneath.Tools.{never, never', any_append}
 use Rattle.field_tests.specs.Sized.{passes, begun, big_from, big_at}
 
 -- word bytes are no brackets
@@ -49,7 +49,7 @@ big_stays (b ∷ s) w d h k = go (word_byte b) (big_stays s (snoc w b) d (omega 
     longer true e j =
         let h : identifier_max < length w = leb-true (suc identifier_max) (length w) e in
         rw (lt-ltb identifier_max (length (snoc w b)) (omega (arith, snoc-length w b)))
-    longer false e j = rw j (or_true (ltb identifier_max (length (snoc w b))))
+    longer false e j = rw j (or-true (ltb identifier_max (length (snoc w b))))
 
     more : big (snoc w b) d ≡ true
     more = longer (ltb identifier_max (length w)) refl k
@@ -60,7 +60,7 @@ big_stays (b ∷ s) w d h k = go (word_byte b) (big_stays s (snoc w b) d (omega 
     go false ih = any_append big_met (met w d) (walk (depth d b) [] s) ∙ rw (big-word w d h, k)
 
 or_swap : (t u : Bool) → (t || u) ≡ (u || t)
-or_swap true u = sym (or_true u)
+or_swap true u = sym (or-true u)
 or_swap false true = refl
 or_swap false false = refl
 

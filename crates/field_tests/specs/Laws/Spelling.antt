@@ -4,12 +4,12 @@ use Rattle.std.proofs.Common.{sym, ap, ◌∙◌, append_assoc, arith}
 use Rattle.std.proofs.Math.Option.{Option, none, some}
 use Rattle.texts.specs.Bytes.{letter, digit, word_byte}
 use Rattle.texts.specs.Terms.{Term}
-use Rattle.texts.specs.Proofs.Reader.{term_of}
-use Rattle.texts.specs.Proofs.Scan.{Scan, after_term, next, scan, done, scan-exact}
-use Rattle.texts.specs.Proofs.Scan.{want, shut, lost}
-use Rattle.texts.specs.Proofs.Scan.{word}
-use Rattle.texts.specs.Proofs.Passes.{misspelt}
-use Rattle.texts.specs.Proofs.Tools.{never}
+use Rattle.texts.specs.Reader.{term_of}
+use Rattle.texts.proofs.Beneath.Scan.{Scan, after_term, next, scan, done, scan-exact}
+use Rattle.texts.proofs.Beneath.Scan.{want, shut, lost}
+use Rattle.texts.proofs.Beneath.Scan.{word}
+use Rattle.texts.proofs.Beneath.Passes.{misspelt}
+use Rattle.texts.proofs.Beneath.Tools.{never}
 use Rattle.field_tests.specs.Spelled.{is_lost, lost_at, misspelt_at}
 
 none_not_some : {A : Type 0} {n : ℕ} → ◌≡◌ {A = Option ℕ} none (some n) → A

@@ -3,8 +3,8 @@ use Rattle.std.specs.Prelude.{◌≡◌, refl, Bool, true, false, List, [], ◌�
 use Rattle.std.proofs.Common.{sym, ap, ◌∙◌, arith}
 use Rattle.std.proofs.Math.Decide.{ℕ_discrete}
 use Rattle.model.specs.Test.{tested}
-use Rattle.model.specs.Tested.{tested-sound}
-use Rattle.texts.specs.Main.{table-book, table_test}
+use Rattle.model.proofs.Tested.{tested-sound}
+use Rattle.texts.proofs.Main.{table-book, table_test}
 use Rattle.texts.specs.TableTest.{test_table}
 use Rattle.table.specs.Layout.{bytes_of, table_bytes}
 use Rattle.table.specs.Layout as Layout

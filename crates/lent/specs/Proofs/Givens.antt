@@ -6,7 +6,7 @@ use Rattle.model.specs.SoundTable.{SoundTable}
 use Rattle.texts.specs.Books.{Book}
 use Rattle.texts.specs.Coded.{table_of, machine}
 use Rattle.texts.specs.Good.{GoodBook}
-use Rattle.texts.specs.Main.{table-book, table_test, table-sound}
+use Rattle.texts.proofs.Main.{table-book, table_test, table-sound}
 use Rattle.texts.specs.TableTest.{test_table}
 use Rattle.table.specs.Laws.Whole.{FitTable, agents_back, tested-fits, view-bytes}
 use Rattle.table.specs.Layout.{agents_in, bytes_of, table_bytes}

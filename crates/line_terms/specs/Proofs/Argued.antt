@@ -10,7 +10,7 @@ use Rattle.texts.specs.Bytes.{Word, any}
 use Rattle.texts.specs.Terms.{Term, spell, Node, nodes_at, nodes}
 use Rattle.texts.specs.Books.{Agent}
 use Rattle.texts.specs.RuleText.{wrong_args, big_node}
-use Rattle.texts.specs.Proofs.Spelling.{spell-term}
+use Rattle.texts.proofs.Beneath.Spelling.{spell-term}
 use Rattle.terms.specs.Meaning.{Spells}
 use Rattle.line_terms.specs.Fields.{field_end}
 use Rattle.line_terms.specs.Arguments.{reaches, argued_by, fields_argued}

@@ -11,9 +11,9 @@ use Rattle.texts.specs.Bytes.{Word, word_byte, letter, digit, fields}
 use Rattle.texts.specs.Terms.{Term}
 use Rattle.texts.specs.Answers.{◌>>=◌}
 use Rattle.texts.specs.RuleText.{terms_of}
-use Rattle.texts.specs.Proofs.Reader.{term_of}
-use Rattle.texts.specs.Proofs.Tools.{found}
-use Rattle.texts.specs.Proofs.Splitting.{fields-cons, fields_last}
+use Rattle.texts.specs.Reader.{term_of}
+use Rattle.texts.proofs.Beneath.Tools.{found}
+use Rattle.texts.proofs.Beneath.Splitting.{fields-cons, fields_last}
 use Rattle.scan.specs.Places.{place, is}
 use Rattle.scan.specs.Cutting.{up_to}
 use Rattle.scan.specs.Laws.Placing.{place_le}

@@ -9,9 +9,9 @@ use Rattle.texts.specs.Terms.{Term, Node, nodes_at, nodes, words_of}
 use Rattle.texts.specs.Books.{Agent, declared, names_of}
 use Rattle.texts.specs.Coded.{packed, size, cells_at}
 use Rattle.texts.specs.RuleText.{wrong_args, big_node}
-use Rattle.texts.specs.Proofs.Tools.{neither, any_append, keep_append}
-use Rattle.texts.specs.Proofs.Linear.{words_append, cell-count}
-use Rattle.texts.specs.Proofs.Loads.{cells-cons}
+use Rattle.texts.proofs.Beneath.Tools.{neither, any_append, keep_append}
+use Rattle.texts.proofs.Beneath.Linear.{words_append, cell-count}
+use Rattle.texts.proofs.Beneath.Loads.{cells-cons}
 use Rattle.terms.specs.Meaning.{grown, Room}
 use Rattle.terms.specs.Proofs.Numbers.{grown-append, grown_longer}
 use Rattle.line_terms.specs.Meaning.{Roomy}

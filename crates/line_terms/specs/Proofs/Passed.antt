@@ -3,7 +3,7 @@ use Prim.Native.Nat.{ℕ, zero, suc, ◌+◌, ◌-◌, ◌<◌, ◌≤◌}
 use Rattle.std.specs.Prelude.{◌≡◌, Bool, cond, not, ◌||◌, eqb, ltb, get_or, take}
 use Rattle.std.proofs.Math.Path.{refl}
 use Rattle.std.proofs.Common.{sym, ◌∙◌}
-use Rattle.std.proofs.Math.Bool.{true, false, or_true}
+use Rattle.std.proofs.Math.Bool.{true, false, or-true}
 use mathlib.Core.List.{List, ◌∷◌, ◌++◌, append_assoc, append-nil}
 use native.Mathlib.Omega.{arith}
 use Rattle.std.proofs.Math.Dec.{eqb-zero-suc, eqb-suc-suc}
@@ -14,7 +14,7 @@ use Rattle.texts.specs.Bytes.{Word, any}
 use Rattle.texts.specs.Terms.{identifier, Term, Terms, term, nil, cons, spell, brackets, closing, worded, wordeds, count, nodes_at, nodes_in}
 use Rattle.texts.specs.Books.{Agent, takes}
 use Rattle.texts.specs.RuleText.{wrong_args, big_node, is_too_long}
-use Rattle.texts.specs.Proofs.Tools.{both, neither, any_append}
+use Rattle.texts.proofs.Beneath.Tools.{both, neither, any_append}
 use Rattle.scan.specs.Words.{word_end}
 use Rattle.terms.specs.Meaning.{Stops}
 use Rattle.terms.specs.Proofs.Spelt.{skip, skip_one, here, Ends, stops-ends, open_ends, word-ends, word_here, word-stops}
@@ -155,7 +155,7 @@ module _ (text : List ℕ) (ags : List Agent) where
           → args_past text (term_past text ags l) more at
           ≡ verdict (not (eqb (suc (count us)) (suc more)) || any (wrong_args ags) (nodes_at lv t ++ nodes_in lv us)) (at + length (spell t ++ closing us))
       by_first l lv more at rest e wd b d true h q =
-          rw (any_append (wrong_args ags) (nodes_at lv t) (nodes_in lv us), h, or_true (not (eqb (suc (count us)) (suc more)))) (args-lost (term_past text ags l) more at q)
+          rw (any_append (wrong_args ags) (nodes_at lv t) (nodes_in lv us), h, or-true (not (eqb (suc (count us)) (suc more)))) (args-lost (term_past text ags l) more at q)
       by_first l lv more at rest e wd b d false h q =
           let len : at + length (spell t ++ closing us) ≡ at + length (spell t) + length (closing us) = omega (arith, length-append (spell t) (closing us)) in
           rw (any_append (wrong_args ags) (nodes_at lv t) (nodes_in lv us), h, len)

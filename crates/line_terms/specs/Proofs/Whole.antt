@@ -13,7 +13,7 @@ use Rattle.texts.specs.Terms.{Term, nodes, words_of}
 use Rattle.texts.specs.Books.{Agent, names_of}
 use Rattle.texts.specs.Coded.{packed, size, codes, cells_at, cells_from}
 use Rattle.texts.specs.RuleText.{wrong_args}
-use Rattle.texts.specs.Proofs.Tools.{never}
+use Rattle.texts.proofs.Beneath.Tools.{never}
 use Rattle.model.specs.Table.{Cell}
 use Rattle.terms.specs.Sheet.{Sheet}
 use Rattle.terms.specs.Reader.{Done, done, field_by}

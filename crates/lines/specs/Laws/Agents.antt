@@ -8,7 +8,7 @@ use Rattle.texts.specs.Terms.{symbol}
 use Rattle.texts.specs.Books.{Agent}
 use Rattle.texts.specs.Coded.{Table}
 use Rattle.texts.specs.TableTest.{agent_ok}
-use Rattle.texts.specs.Proofs.Tools.{both, pair, all_mono, never}
+use Rattle.texts.proofs.Beneath.Tools.{both, pair, all_mono, never}
 use Rattle.table.specs.Lists.{tab, blocks, filled}
 use Rattle.table.specs.Lists as Lists
 use Rattle.table.specs.Layout.{agents_at, agent_bytes, pair_bytes, bytes_of}

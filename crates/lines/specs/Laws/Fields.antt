@@ -3,15 +3,15 @@ use Rattle.std.specs.Prelude.{ℕ, zero, suc, ◌+◌, ◌-◌, ◌≤◌, ◌<�
 use Rattle.std.proofs.Common.{sym, ap, ◌∙◌, arith, length-drop, drop-drop, length-take-le, le-leb, ltb-true, ltb-false}
 use Rattle.std.proofs.Math.Option.{none, some}
 use Rattle.std.proofs.Math.Seq.{drop-append-add}
-use Rattle.std.proofs.lemmas.Bool.{lt-leb, not_true}
+use Rattle.std.proofs.lemmas.Bool.{lt-leb, not-true}
 use Rattle.texts.specs.Bytes.{Word, any, all, fields}
 use Rattle.texts.specs.Terms.{Term, spell, nodes}
 use Rattle.texts.specs.RuleText.{terms_of, big_node}
-use Rattle.texts.specs.Proofs.Splitting.{free, fields-cons, fields_last}
-use Rattle.texts.specs.Proofs.Tools.{both, any_append}
-use Rattle.texts.specs.Proofs.Means.{spell-terms}
-use Rattle.texts.specs.Proofs.Passes.{met_in, big_met, big_met_lem}
-use Rattle.texts.specs.Proofs.Walk.{walk}
+use Rattle.texts.proofs.Beneath.Splitting.{free, fields-cons, fields_last}
+use Rattle.texts.proofs.Beneath.Tools.{both, any_append}
+use Rattle.texts.proofs.Beneath.Means.{spell-terms}
+use Rattle.texts.proofs.Beneath.Passes.{met_in, big_met, big_met_lem}
+use Rattle.texts.proofs.Beneath.Walk.{walk}
 use Rattle.scan.specs.Places.{place, is}
 use Rattle.scan.specs.Cutting.{up_to, tabs, field_start}
 use Rattle.scan.specs.Laws.Cutting.{cut-free, cut-mark, cut_all}
@@ -32,7 +32,7 @@ cut l = go (ltb (place (is 9) l) (length l)) refl
 
 no_tab : (b : ℕ) → free 9 b ≡ true → tabs b ≡ 0
 unfolding free tabs
-no_tab b h = rw (not_true (eqb b 9) h)
+no_tab b h = rw (not-true (eqb b 9) h)
 
 pub start_zero : (l : List ℕ) → field_start l 0 ≡ 0
 unfolding field_start

@@ -11,7 +11,7 @@ use Rattle.texts.specs.Bytes.{Word, any, keep, among, index_of}
 use Rattle.texts.specs.Terms.{Term, Node, nodes, words_of}
 use Rattle.texts.specs.Books.{Agent, declared, names_of}
 use Rattle.texts.specs.RuleText.{is_too_long, big_node}
-use Rattle.texts.specs.Proofs.Tools.{neither}
+use Rattle.texts.proofs.Beneath.Tools.{neither}
 use Rattle.terms.specs.Sheet.{Sheet, entered}
 use Rattle.terms.specs.Words.{entries}
 use Rattle.terms.specs.Reader.{Done, done}

@@ -9,10 +9,10 @@ use Rattle.texts.specs.Bytes.{Word, keep, fields, letter, digit, word_byte}
 use Rattle.texts.specs.Terms.{Term, nodes, words_of}
 use Rattle.texts.specs.Books.{Agent, declared, cells_of}
 use Rattle.texts.specs.RuleText.{terms_of}
-use Rattle.texts.specs.Proofs.Splitting.{fields-cons, fields_last}
-use Rattle.texts.specs.Proofs.Means.{spell-terms}
-use Rattle.texts.specs.Proofs.Passes.{met_in, met-nodes, words-seen}
-use Rattle.texts.specs.Proofs.Walk.{Met, depth, met, walk}
+use Rattle.texts.proofs.Beneath.Splitting.{fields-cons, fields_last}
+use Rattle.texts.proofs.Beneath.Means.{spell-terms}
+use Rattle.texts.proofs.Beneath.Passes.{met_in, met-nodes, words-seen}
+use Rattle.texts.proofs.Beneath.Walk.{Met, depth, met, walk}
 use Rattle.scan.specs.Cutting.{field_start}
 use Rattle.scan.specs.Words.{words_in}
 use Rattle.scan.specs.Laws.Wording.{level-free}

@@ -5,10 +5,10 @@ use Rattle.texts.specs.Bytes.{Word, keep}
 use Rattle.texts.specs.Terms.{Term, nodes, words_of}
 use Rattle.texts.specs.Books.{Agent, declared, cells_of}
 use Rattle.texts.specs.Coded.{packed, codes}
-use Rattle.texts.specs.Proofs.Tools.{keep_append}
-use Rattle.texts.specs.Proofs.NetMeans.{nodes-append}
-use Rattle.texts.specs.Proofs.Linear.{words_append}
-use Rattle.texts.specs.Proofs.TableSound.{codes-length as codes-count, packed-count}
+use Rattle.texts.proofs.Beneath.Tools.{keep_append}
+use Rattle.texts.proofs.Beneath.NetMeans.{nodes-append}
+use Rattle.texts.proofs.Beneath.Linear.{words_append}
+use Rattle.texts.proofs.Beneath.TableSound.{codes-length as codes-count, packed-count}
 
 pub codes-length : (ags : List Agent) (number : Word → ℕ) (ts : List Term) (m : ℕ) → length (codes ags number m (packed ts)) ≡ length ts
 codes-length ags number ts m = codes-count ags number (packed ts) m ∙ packed-count ts

@@ -15,11 +15,11 @@ use Rattle.texts.specs.Terms.{Term, spell, nodes}
 use Rattle.texts.specs.Books.{Agent, cells_of, names_of}
 use Rattle.texts.specs.RuleText.{big_node, wrong_args, terms_of}
 use Rattle.texts.specs.Coded.{packed, codes, cells_from}
-use Rattle.texts.specs.Proofs.Tools.{any_append, none_of}
-use Rattle.texts.specs.Proofs.Means.{spell-terms}
-use Rattle.texts.specs.Proofs.NetMeans.{nodes-append}
-use Rattle.texts.specs.Proofs.Linear.{cell-count}
-use Rattle.texts.specs.Proofs.Loads.{cells-append, codes-append}
+use Rattle.texts.proofs.Beneath.Tools.{any_append, none_of}
+use Rattle.texts.proofs.Beneath.Means.{spell-terms}
+use Rattle.texts.proofs.Beneath.NetMeans.{nodes-append}
+use Rattle.texts.proofs.Beneath.Linear.{cell-count}
+use Rattle.texts.proofs.Beneath.Loads.{cells-append, codes-append}
 use Rattle.table.specs.Lists.{tab}
 use Rattle.table.specs.Laws.Lists.{tab_list}
 use Rattle.terms.specs.Sheet.{Sheet}

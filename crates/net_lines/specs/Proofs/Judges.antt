@@ -13,8 +13,8 @@ use Rattle.texts.specs.Answers.{fine, fault, refuse}
 use Rattle.texts.specs.RuleText.{big_node, wrong_args, terms_of}
 use Rattle.texts.specs.NetText.{big_net, net_fault5, net_fault7, net_judged}
 use Rattle.texts.specs.Coded.{packed, cells_from}
-use Rattle.texts.specs.Proofs.Tools.{never, never', none_of}
-use Rattle.texts.specs.Proofs.Linear.{cell-count}
+use Rattle.texts.proofs.Beneath.Tools.{never, never', none_of}
+use Rattle.texts.proofs.Beneath.Linear.{cell-count}
 use Rattle.scan.specs.Cutting.{field_start}
 use Rattle.scan.specs.Words.{words_in}
 use Rattle.scan.specs.Laws.Cutting.{start_le}

@@ -5,9 +5,9 @@ use mathlib.Core.List.Memᴰ
 use Rattle.texts.specs.Bytes.{Word, among, different, In}
 use Rattle.texts.specs.Terms.{Term}
 use Rattle.texts.specs.Books.{Agent, names_of}
-use Rattle.texts.specs.Proofs.Tools.{in_among}
-use Rattle.texts.specs.Proofs.Places.{in_different}
-use Rattle.texts.specs.Proofs.NetMeans.{names-append}
+use Rattle.texts.proofs.Beneath.Tools.{in_among}
+use Rattle.texts.proofs.Beneath.Places.{in_different}
+use Rattle.texts.proofs.Beneath.NetMeans.{names-append}
 use Rattle.terms.specs.Meaning.{grown}
 use Rattle.terms.specs.Main.{names-different}
 use Rattle.terms.specs.Proofs.Numbers.{grown-append, grown_on}

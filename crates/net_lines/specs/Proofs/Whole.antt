@@ -10,8 +10,8 @@ use Rattle.texts.specs.Books.{Agent, Equation, Net, pairs, sides, net_terms}
 use Rattle.texts.specs.Answers.{OfLine, fine, fault, need, refuse}
 use Rattle.texts.specs.RuleText.{terms_of}
 use Rattle.texts.specs.NetText.{face_fields, eq_fields, net_judged, face_net, more_net, face_line, eq_line, net_lines}
-use Rattle.texts.specs.Proofs.Means.{spell-terms}
-use Rattle.texts.specs.Proofs.Splitting.{ended_line}
+use Rattle.texts.proofs.Beneath.Means.{spell-terms}
+use Rattle.texts.proofs.Beneath.Splitting.{ended_line}
 use Rattle.terms.specs.Sheet.{Sheet}
 use Rattle.lines.specs.Names.{between}
 use Rattle.net_lines.specs.Draft.{Draft}

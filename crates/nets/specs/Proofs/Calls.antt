@@ -6,7 +6,7 @@ use Rattle.std.proofs.Math.Dec.{ltb}
 use borrow.Author.Tests.{leb-true, lt-ltb, le-ltb, ltb-false}
 use Rattle.parts.specs.Limits.{text_max, identifier_max, arity_max, symbols_max, face_max, net_equations_max, net_cells_max, net_names_max}
 use Rattle.model.specs.State.{St, zeros}
-use Rattle.model.specs.Proofs.Facts.{zeros-length, zero_at}
+use Rattle.model.proofs.Beneath.Facts.{zeros-length, zero_at}
 use Rattle.model.specs.Load.{loaded}
 use Rattle.texts.specs.Bytes.{Word, any, all, keep, same, different, lines}
 use Rattle.texts.specs.Terms.{nodes, words_of}
@@ -15,12 +15,12 @@ use Rattle.texts.specs.Answers.{OfText, accepted, refused}
 use Rattle.texts.specs.NetText.{big_net, net_of_lines, read_net, net_read}
 use Rattle.texts.specs.Coded.{Table, table_of, packed, codes, cells_from, cells_at, load, arity_at}
 use Rattle.texts.specs.Good.{GoodBook}
-use Rattle.texts.specs.Main.{table-book, table_test, net-text-accepted}
+use Rattle.texts.proofs.Main.{table-book, table_test, net-text-accepted}
 use Rattle.texts.specs.TableTest.{agent_ok, test_table}
 use Rattle.texts.specs.Terms as Terms
-use Rattle.texts.specs.Proofs.Tools.{both, pair, neither, never', all_mono, same_refl, same_eq}
-use Rattle.texts.specs.Proofs.NetMeans.{net-good-small}
-use Rattle.texts.specs.Proofs.Loads.{cells-nil}
+use Rattle.texts.proofs.Beneath.Tools.{both, pair, neither, never', all_mono, same_refl, same_eq}
+use Rattle.texts.proofs.Beneath.NetMeans.{net-good-small}
+use Rattle.texts.proofs.Beneath.Loads.{cells-nil}
 use Rattle.table.specs.Layout.{agents_in, bytes_of, table_bytes}
 use Rattle.table.specs.Layout as Layout
 use Rattle.table.specs.Laws.Whole.{FitAgents, FitTable, agents_back, view-bytes, tested-fits}

@@ -16,9 +16,9 @@ use Rattle.texts.specs.Terms.{Term}
 use Rattle.texts.specs.Books.{Agent, Net, cells_of, names_of, sides, net_terms}
 use Rattle.texts.specs.Coded.{packed, twos, codes, cells_from, net_number, load, arity_at}
 use Rattle.texts.specs.TableTest.{cell_ok}
-use Rattle.texts.specs.Proofs.Tools.{both}
-use Rattle.texts.specs.Proofs.TableSound.{all_cells_ok}
-use Rattle.texts.specs.Proofs.Loads.{codes-append}
+use Rattle.texts.proofs.Beneath.Tools.{both}
+use Rattle.texts.proofs.Beneath.TableSound.{all_cells_ok}
+use Rattle.texts.proofs.Beneath.Loads.{codes-append}
 use Rattle.table.specs.Lists.{tab}
 use Rattle.table.specs.Laws.Lists.{length-tab, tab_at, tab_list}
 use Rattle.terms.specs.Sheet.{Sheet}

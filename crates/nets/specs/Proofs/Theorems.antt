@@ -6,7 +6,7 @@ use Rattle.parts.specs.Limits.{text_max}
 use Rattle.calculus.specs.Nets.{◌≈◌}
 use Rattle.model.specs.State.{St}
 use Rattle.model.specs.Load.{loaded}
-use Rattle.model.specs.Kept as Kept
+use Rattle.model.proofs.Kept as Kept
 use Rattle.model.specs.Sound as Machine
 use Rattle.texts.specs.Books.{Agent, Book, Net, print_net}
 use Rattle.texts.specs.Answers.{OfText, accepted, refused}
@@ -15,7 +15,7 @@ use Rattle.texts.specs.Refused.{NetRefused}
 use Rattle.texts.specs.Coded.{table_of, machine, load}
 use Rattle.texts.specs.Meaning.{meant_net}
 use Rattle.texts.specs.Good.{GoodBook, GoodNet}
-use Rattle.texts.specs.Main.{net-text-refused, net-text-accepted, net-loads, table-sound}
+use Rattle.texts.proofs.Main.{net-text-refused, net-text-accepted, net-loads, table-sound}
 use Rattle.table.specs.Layout.{agents_in, table_bytes}
 use Rattle.table.specs.Laws.Whole.{agents_back}
 use Rattle.table.specs.Given.{Given}

@@ -13,7 +13,7 @@ use Rattle.texts.specs.Books.{Agent, Net, cells_of, names_of, net_terms}
 use Rattle.texts.specs.Answers.{OfText, accepted, refused, read_lines, after}
 use Rattle.texts.specs.RuleText.{Counts}
 use Rattle.texts.specs.NetText.{eq_line, loose_line, net_lines, unless_loose, names_twice, net_counted, face_and_eqs, net_of_lines}
-use Rattle.texts.specs.Proofs.Linear.{cell-count}
+use Rattle.texts.proofs.Beneath.Linear.{cell-count}
 use Rattle.table.specs.Lists.{tab}
 use Rattle.table.specs.Layout.{agents_in}
 use Rattle.terms.specs.Sheet.{Sheet}

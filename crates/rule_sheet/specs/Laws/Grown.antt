@@ -6,9 +6,9 @@ use Rattle.std.proofs.Math.Bool.{true, false}
 use mathlib.Core.List.Memᴰ
 use mathlib.Core.List.{List, [], ◌∷◌, ◌++◌, append-nil, append_assoc}
 use Rattle.texts.specs.Bytes.{Word, keep, among, different, In}
-use Rattle.texts.specs.Proofs.Tools.{never}
-use Rattle.texts.specs.Proofs.Places.{keep_in}
-use Rattle.texts.specs.Proofs.TermLists.{among-append}
+use Rattle.texts.proofs.Beneath.Tools.{never}
+use Rattle.texts.proofs.Beneath.Places.{keep_in}
+use Rattle.texts.proofs.Beneath.TermLists.{among-append}
 use Rattle.terms.specs.Meaning.{grown}
 use Rattle.terms.specs.Main.{names-different}
 

@@ -8,10 +8,10 @@ use Rattle.texts.specs.Terms.{Term, nodes, words_of}
 use Rattle.texts.specs.Books.{Agent, Rule, declared, takes, head_of, args_of, left_args, lefts, rights}
 use Rattle.texts.specs.Coded.{template}
 use Rattle.texts.specs.RuleText.{wrong_args, over_names, terms_of}
-use Rattle.texts.specs.Proofs.Tools.{pair, true_all, false-any}
-use Rattle.texts.specs.Proofs.Agents.{symbol-number}
-use Rattle.texts.specs.Proofs.Linear.{words_append}
-use Rattle.texts.specs.Proofs.Ranged.{first_arity, second-arity}
+use Rattle.texts.proofs.Beneath.Tools.{pair, true_all, false-any}
+use Rattle.texts.proofs.Beneath.Agents.{symbol-number}
+use Rattle.texts.proofs.Beneath.Linear.{words_append}
+use Rattle.texts.proofs.Beneath.Ranged.{first_arity, second-arity}
 use Rattle.scan.specs.Cutting.{field_start}
 use Rattle.scan.specs.Words.{words_in}
 use Rattle.lines.specs.Laws.Words.{part-words}

@@ -17,13 +17,13 @@ use Rattle.texts.specs.Books.{Agent, Equation, Rule, declared, args_of, lefts, r
 use Rattle.texts.specs.Coded.{new_from, packed, twos, codes, cells_from, rule_number, template, unpaired}
 use Rattle.texts.specs.RuleText.{big_node}
 use Rattle.texts.specs.TableTest.{agent_ok}
-use Rattle.texts.specs.Proofs.Tools.{both, neither, any_append, all_mono}
-use Rattle.texts.specs.Proofs.Means.{spell-terms}
-use Rattle.texts.specs.Proofs.Places.{in_keep}
-use Rattle.texts.specs.Proofs.Linear.{words_in, words_all}
-use Rattle.texts.specs.Proofs.Templates.{Few, unpaired-twos, codes-even, template-cells, right_args}
-use Rattle.texts.specs.Proofs.Ranged.{first_arity, second-arity, codes_pass}
-use Rattle.texts.specs.Proofs.TableSound.{all_cells_ok}
+use Rattle.texts.proofs.Beneath.Tools.{both, neither, any_append, all_mono}
+use Rattle.texts.proofs.Beneath.Means.{spell-terms}
+use Rattle.texts.proofs.Beneath.Places.{in_keep}
+use Rattle.texts.proofs.Beneath.Linear.{words_in, words_all}
+use Rattle.texts.proofs.Beneath.Templates.{Few, unpaired-twos, codes-even, template-cells, right_args}
+use Rattle.texts.proofs.Beneath.Ranged.{first_arity, second-arity, codes_pass}
+use Rattle.texts.proofs.Beneath.TableSound.{all_cells_ok}
 use Rattle.scan.specs.Cutting.{field_start}
 use Rattle.table.specs.declared.Rule.{Rule as Coded}
 use Rattle.table.specs.Rule.{stands}

@@ -5,7 +5,7 @@ use Rattle.texts.specs.Bytes.{any}
 use Rattle.texts.specs.Terms.{Term, Node, nodes_at, nodes}
 use Rattle.texts.specs.Books.{Book, Rule, is_rule, lefts, rights}
 use Rattle.texts.specs.RuleText.{wrong_args, fault7}
-use Rattle.texts.specs.Proofs.Tools.{neither, any_append}
+use Rattle.texts.proofs.Beneath.Tools.{neither, any_append}
 
 pub nodes-apart : (ts us : List Term) → nodes (ts ++ us) ≡ nodes ts ++ nodes us
 unfolding nodes

@@ -10,9 +10,9 @@ use Rattle.texts.specs.Bytes.{Word, any, all, keep, among, times, In, Distinct}
 use Rattle.texts.specs.Terms.{nodes, words_of}
 use Rattle.texts.specs.Books.{Agent, Book, Rule, is_rule, declared, left_args, lefts, rights, names_of}
 use Rattle.texts.specs.RuleText.{wrong_args, over_names, all_different, right_times, wrong_times, fault8}
-use Rattle.texts.specs.Proofs.Tools.{never, never', both, neither, none_of, any_false, false-any, among_in, in_among}
-use Rattle.texts.specs.Proofs.Places.{keep_in, in_keep}
-use Rattle.texts.specs.Proofs.Linear.{words_append}
+use Rattle.texts.proofs.Beneath.Tools.{never, never', both, neither, none_of, any_false, false-any, among_in, in_among}
+use Rattle.texts.proofs.Beneath.Places.{keep_in, in_keep}
+use Rattle.texts.proofs.Beneath.Linear.{words_append}
 use Rattle.rule_tests.specs.Words.{wrong_word}
 use Rattle.rule_tests.specs.Laws.Lefts.{left_args_lem}
 use Rattle.rule_tests.specs.Laws.Times.{times_in, times-out, times-kept, distinct-once, once-different, different-distinct}

@@ -13,10 +13,10 @@ use Rattle.texts.specs.Terms.{Term, nodes, words_of}
 use Rattle.texts.specs.Books.{Agent, Equation, Rule, Book, is_rule, add, declared, cells_of, names_of, sides, lefts, rights, new_names_of}
 use Rattle.texts.specs.Answers.{◌>>=◌}
 use Rattle.texts.specs.RuleText.{big_node, big_record, big_book, fault5, terms_of}
-use Rattle.texts.specs.Proofs.Reader.{term_of}
-use Rattle.texts.specs.Proofs.Tools.{found, neither}
-use Rattle.texts.specs.Proofs.Places.{keep-keep, keep_in, in_keep}
-use Rattle.texts.specs.Proofs.Tools.{among_in, in_among}
+use Rattle.texts.specs.Reader.{term_of}
+use Rattle.texts.proofs.Beneath.Tools.{found, neither}
+use Rattle.texts.proofs.Beneath.Places.{keep-keep, keep_in, in_keep}
+use Rattle.texts.proofs.Beneath.Tools.{among_in, in_among}
 use Rattle.rule_tests.specs.Fields.{Fields}
 use Rattle.rule_tests.specs.Words.{new_word, right_big}
 

@@ -3,8 +3,8 @@ use Rattle.std.specs.Prelude.{suc, ◌+◌, ◌≡◌, refl, Bool, true, false, 
 use Rattle.std.proofs.Common.{sym, ap, subst, ◌∙◌, ⊎_elim, arith}
 use mathlib.Core.List.Memᴰ
 use Rattle.texts.specs.Bytes.{Word, keep, same, among, different, In, Distinct}
-use Rattle.texts.specs.Proofs.Tools.{never, same_eq, same_refl, among_in}
-use Rattle.texts.specs.Proofs.Places.{not_in, keep_in, in_keep, different_in, in_different, different-distinct, keep-every, same_not}
+use Rattle.texts.proofs.Beneath.Tools.{never, same_eq, same_refl, among_in}
+use Rattle.texts.proofs.Beneath.Places.{not_in, keep_in, in_keep, different_in, in_different, different-distinct, keep-every, same_not}
 use Rattle.rule_tests.specs.Words.{last_ones}
 
 abbrev other : Word → Word → Bool

@@ -13,8 +13,8 @@ use Rattle.texts.specs.Bytes.{Word, any, all, keep}
 use Rattle.texts.specs.Terms.{Term, Terms, term, nil, cons, Node, count, nodes_at, nodes_in, nodes, words_of}
 use Rattle.texts.specs.Books.{Agent, Rule, declared, takes, head_of, heads, args_of, left_args, lefts}
 use Rattle.texts.specs.RuleText.{wrong_args, over_names}
-use Rattle.texts.specs.Proofs.Tools.{never, never', both, neither, any_append, keep_append}
-use Rattle.texts.specs.Proofs.Linear.{words_append, takes-name}
+use Rattle.texts.proofs.Beneath.Tools.{never, never', both, neither, any_append, keep_append}
+use Rattle.texts.proofs.Beneath.Linear.{words_append, takes-name}
 
 module _ (ags : List Agent) where
   abbrev named : Word → Bool

@@ -8,7 +8,7 @@ use Rattle.texts.specs.Terms.{Term, nodes, words_of}
 use Rattle.texts.specs.Books.{Rule, lefts, rights}
 use Rattle.texts.specs.Answers.{◌>>=◌}
 use Rattle.texts.specs.RuleText.{terms_of}
-use Rattle.texts.specs.Proofs.Reader.{term_of}
+use Rattle.texts.specs.Reader.{term_of}
 use Rattle.scan.specs.Cutting.{field_start}
 use Rattle.scan.specs.Words.{words_in}
 use Rattle.lines.specs.Words.{words_of_all}

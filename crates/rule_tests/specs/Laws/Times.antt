@@ -4,9 +4,9 @@ use Rattle.std.proofs.Common.{sym, ap, subst, ◌∙◌, ⊎_elim, arith}
 use mathlib.Core.List.Memᴰ
 use Rattle.texts.specs.Bytes.{Word, any, keep, same, among, times, In, Distinct}
 use Rattle.texts.specs.RuleText.{all_different}
-use Rattle.texts.specs.Proofs.Tools.{never, neither, same_eq, same_refl, among_in}
-use Rattle.texts.specs.Proofs.Places.{not_in, same_not}
-use Rattle.texts.specs.Proofs.RuleSound.{of_distinct}
+use Rattle.texts.proofs.Beneath.Tools.{never, neither, same_eq, same_refl, among_in}
+use Rattle.texts.proofs.Beneath.Places.{not_in, same_not}
+use Rattle.texts.proofs.Beneath.RuleSound.{of_distinct}
 
 times-cons : (w v : Word) (ws : List Word) → times w (v ∷ ws) ≡ cond (same w v) 1 0 + times w ws
 unfolding times keep

@@ -5,7 +5,7 @@ use Rattle.std.proofs.Math.Decide.{ℕ_discrete}
 use Rattle.texts.specs.Bytes.{any}
 use Rattle.texts.specs.TableTest.{pair_test}
 use Rattle.model.specs.Table.{Entry, Found, none, straight, turned, find}
-use Rattle.model.specs.Proofs.Decisions.{both}
+use Rattle.model.specs.Decisions.{both}
 
 abbrev pub is_found : Found → Bool
 is_found none = false

@@ -3,7 +3,7 @@ use Rattle.std.specs.Prelude.{ℕ, zero, suc, ◌+◌, ◌<◌, ◌≤◌, ◌�
 use Rattle.std.proofs.Common.{sym, ap, ap₂, ◌∙◌, arith, below_none, below_more}
 use Rattle.std.proofs.Math.Decide.{ℕ_discrete}
 use Rattle.texts.specs.Bytes.{any, all}
-use Rattle.texts.specs.Proofs.Tools.{both, pair, any_append}
+use Rattle.texts.proofs.Beneath.Tools.{both, pair, any_append}
 use Rattle.table.specs.Lists.{tab, each}
 use Rattle.table.specs.Laws.Lists.{tab-snoc}
 

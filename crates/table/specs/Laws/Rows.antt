@@ -14,7 +14,7 @@ use Rattle.texts.specs.Terms.{symbol}
 use Rattle.texts.specs.Books.{Agent}
 use Rattle.texts.specs.TableTest.{agent_ok, cell_ok}
 use Rattle.texts.specs.Coded.{arity_at, unpaired}
-use Rattle.texts.specs.Proofs.Tools.{never, both}
+use Rattle.texts.proofs.Beneath.Tools.{never, both}
 use Rattle.table.specs.Lists.{tab, blocks, filled, row_of}
 use Rattle.table.specs.Laws.Lists.{length-tab, tab_at, tab_list, length-row, row_at, length-blocks, block_get}
 use Rattle.table.specs.Layout.{sides_in, nodes_in, word, agent_of, equation_of, symbol_of, cell_of, entry_of, agent_bytes, node_bytes, rule_bytes}

@@ -11,8 +11,8 @@ use Rattle.texts.specs.Bytes.{all, any}
 use Rattle.texts.specs.Books.{Agent, declared}
 use Rattle.texts.specs.Coded.{Table}
 use Rattle.texts.specs.TableTest.{agent_ok, test_agents, pair_test, test_template, test_templates, test_table}
-use Rattle.texts.specs.Proofs.Tools.{both, pair}
-use Rattle.texts.specs.Proofs.Clauses.{clauses_of}
+use Rattle.texts.proofs.Beneath.Tools.{both, pair}
+use Rattle.texts.proofs.Beneath.Clauses.{clauses_of}
 use Rattle.table.specs.Lists.{tab, blocks, row_of}
 use Rattle.table.specs.Laws.Lists.{row-past, length-tab, tab_list, length-row, row_at, length-blocks, block_at, block_get}
 use Rattle.table.specs.Put.{no_table}

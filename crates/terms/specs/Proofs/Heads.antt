@@ -15,7 +15,7 @@ use Rattle.parts.specs.declared.CellNo.{CellNo}
 use Rattle.parts.specs.declared.SymbolNo.{SymbolNo}
 use Rattle.texts.specs.Bytes.{Word, same, index_of}
 use Rattle.texts.specs.Books.{Agent}
-use Rattle.texts.specs.Proofs.Tools.{both}
+use Rattle.texts.proofs.Beneath.Tools.{both}
 use Rattle.terms.specs.Sheet.{Sheet, opened, entered}
 use Rattle.terms.specs.Agents.{spelling_at, agents_from, agents_of}
 use Rattle.terms.specs.Words.{found, entries}

@@ -8,7 +8,7 @@ use native.Mathlib.Omega.{arith}
 use Rattle.texts.specs.Bytes.{Word, any, same, among, index_of}
 use Rattle.texts.specs.Books.{Agent, declared, takes}
 use Rattle.texts.specs.Coded.{symbol_of}
-use Rattle.texts.specs.Proofs.Tools.{never, never', same_refl}
+use Rattle.texts.proofs.Beneath.Tools.{never, never', same_refl}
 use Rattle.terms.specs.Words.{found, entry, entries_from}
 use Rattle.terms.specs.Meaning.{grown}
 use Rattle.terms.specs.declared.words.Found.{Found}

@@ -16,7 +16,7 @@ use Rattle.texts.specs.Terms.{identifier, Term, Terms, term, nil, cons, spell, b
 use Rattle.texts.specs.Books.{Agent, declared, takes}
 use Rattle.texts.specs.Coded.{symbol_of}
 use Rattle.texts.specs.RuleText.{wrong_args}
-use Rattle.texts.specs.Proofs.Tools.{both, any_append, none_of}
+use Rattle.texts.proofs.Beneath.Tools.{both, any_append, none_of}
 use Rattle.terms.specs.Sheet.{Sheet, argued, opened}
 use Rattle.scan.specs.Words.{word_end}
 use Rattle.terms.specs.Reader.{Done, done, name_by, taking, cell_by, found_by, head_by, on_read, last_arg, next_arg, args_by, after_head, with_head, term_by}

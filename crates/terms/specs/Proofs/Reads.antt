@@ -13,7 +13,7 @@ use Rattle.texts.specs.Terms.{identifier, Term, Terms, term, nil, cons, spell, c
 use Rattle.texts.specs.Books.{Agent, declared, takes}
 use Rattle.model.specs.Table.{Cell}
 use Rattle.texts.specs.Coded.{symbol_of, code_at, cells_at}
-use Rattle.texts.specs.Proofs.Tools.{keep_append}
+use Rattle.texts.proofs.Beneath.Tools.{keep_append}
 use Rattle.terms.specs.Sheet.{Sheet, entered}
 use Rattle.terms.specs.Words.{entries}
 use Rattle.terms.specs.Reader.{done, fits, head_by, args_by, term_by}

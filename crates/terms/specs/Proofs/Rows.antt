@@ -9,11 +9,11 @@ use native.Mathlib.Omega.{arith}
 use Rattle.std.proofs.Math.ListN.{length, drop, replicate}
 use Rattle.std.proofs.lemmas.List.{length-replicate, get_or_at}
 use Rattle.std.proofs.Math.Seq.{take_at}
-use borrow.Author.Tests.{leb-true, ne_eqb, eq-eqb, not_true}
+use borrow.Author.Tests.{leb-true, ne_eqb, eq-eqb, not-true}
 use Rattle.parts.specs.Limits.{identifier_max, symbols_max, agent_size}
 use Rattle.texts.specs.Bytes.{Word, all}
 use Rattle.texts.specs.Books.{Agent}
-use Rattle.texts.specs.Proofs.Tools.{both}
+use Rattle.texts.proofs.Beneath.Tools.{both}
 use Rattle.scan.specs.Places.{place}
 use Rattle.scan.specs.Cutting.{up_to}
 use Rattle.terms.specs.Agents.{spelling_at, agents_from, agents_of, row_of, rows_of, lettered, Listed}
@@ -33,7 +33,7 @@ unfolding up_to place all
 until_filled [] n h = until_zeros n
 until_filled (b ∷ bs) n h =
     let p = both (not (eqb b 0)) (all (λ c. not (eqb c 0)) bs) h in
-    rw (not_true (eqb b 0) p.0) (ap (λ (l : List ℕ). b ∷ l) (until_filled bs n p.1))
+    rw (not-true (eqb b 0) p.0) (ap (λ (l : List ℕ). b ∷ l) (until_filled bs n p.1))
 
 module _ (bytes : List ℕ) where
   -- a row of zeros is no symbol's

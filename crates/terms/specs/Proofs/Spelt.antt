@@ -5,8 +5,8 @@ use Rattle.std.proofs.Math.ListN.{get_or-eq_default}
 use Rattle.std.proofs.Math.Seq.{drop-append_seam, take-append_seam}
 use Rattle.texts.specs.Bytes.{Word, all, letter, digit, word_byte}
 use Rattle.texts.specs.Terms.{identifier}
-use Rattle.texts.specs.Proofs.Spelling.{identifier-bytes}
-use Rattle.texts.specs.Proofs.Tools.{never, both}
+use Rattle.texts.proofs.Beneath.Spelling.{identifier-bytes}
+use Rattle.texts.proofs.Beneath.Tools.{never, both}
 use Rattle.scan.specs.Places.{place}
 use Rattle.scan.specs.Words.{word_end}
 use Rattle.terms.specs.Meaning.{Stops}

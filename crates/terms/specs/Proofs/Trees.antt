@@ -14,7 +14,7 @@ use Rattle.texts.specs.Terms.{identifier, Term, Terms, term, nil, cons, spell, b
 use Rattle.texts.specs.Books.{Agent, declared, takes, cells_of}
 use Rattle.model.specs.Table.{Cell}
 use Rattle.texts.specs.Coded.{symbol_of, size, codes, cells_from}
-use Rattle.texts.specs.Proofs.Tools.{both, all_left, all_right}
+use Rattle.texts.proofs.Beneath.Tools.{both, all_left, all_right}
 use Rattle.terms.specs.Sheet.{Sheet, argued, opened}
 use Rattle.terms.specs.Words.{found}
 use Rattle.terms.specs.Reader.{term_by}

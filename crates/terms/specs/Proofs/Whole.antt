@@ -11,8 +11,8 @@ use Rattle.texts.specs.Terms.{Term, spell, worded, Node, nodes_at, nodes, words_
 use Rattle.texts.specs.Books.{Agent, takes, cells_of, names_of}
 use Rattle.model.specs.Table.{Cell}
 use Rattle.texts.specs.RuleText.{wrong_args, big_node, is_too_long}
-use Rattle.texts.specs.Proofs.Spelling.{spell-term}
-use Rattle.texts.specs.Proofs.Tools.{never, never', both, neither, any_append, same_eq, same_refl}
+use Rattle.texts.proofs.Beneath.Spelling.{spell-term}
+use Rattle.texts.proofs.Beneath.Tools.{never, never', both, neither, any_append, same_eq, same_refl}
 use Rattle.terms.specs.Sheet.{Sheet}
 use Rattle.terms.specs.Reader.{Done, done, on_read, term_by, whole, field_by}
 use Rattle.terms.specs.Meaning.{number, side_at, term_cells, Holds, grown, Spells, Room}

@@ -15,8 +15,8 @@ use Rattle.texts.specs.Terms.{Term, nodes, words_of}
 use Rattle.texts.specs.Books.{Agent, Equation, Net, names_of, sides, net_terms}
 use Rattle.texts.specs.RuleText.{word_at}
 use Rattle.texts.specs.NetText.{loose, loose_line, net_lines}
-use Rattle.texts.specs.Proofs.Tools.{any_append, same_eq}
-use Rattle.texts.specs.Proofs.NetMeans.{names-append}
+use Rattle.texts.proofs.Beneath.Tools.{any_append, same_eq}
+use Rattle.texts.proofs.Beneath.NetMeans.{names-append}
 use Rattle.terms.specs.Meaning.{grown}
 use Rattle.terms.specs.Main.{names-different}
 use Rattle.terms.specs.Proofs.Numbers.{grown-append, grown_on}

@@ -11,9 +11,9 @@ use Rattle.texts.specs.RuleText.{word_at, wrong_args}
 use Rattle.texts.specs.NetText.{loose}
 use Rattle.texts.specs.Coded.{packed, codes, cells_from, net_number}
 use Rattle.texts.specs.TableTest.{tally, same_side, args_all}
-use Rattle.texts.specs.Proofs.Linear.{cell_tally, code-count}
-use Rattle.texts.specs.Proofs.Places.{index_all, different-distinct}
-use Rattle.texts.specs.Proofs.Templates.{tally_ext, cell_none, name-cell, name-name}
+use Rattle.texts.proofs.Beneath.Linear.{cell_tally, code-count}
+use Rattle.texts.proofs.Beneath.Places.{index_all, different-distinct}
+use Rattle.texts.proofs.Beneath.Templates.{tally_ext, cell_none, name-cell, name-name}
 use Rattle.terms.specs.Sheet.{Sheet}
 use Rattle.loading.specs.OnSheet.{cells_on, face_on}
 use Rattle.twice.specs.Counting.{stands_on, loose_on}

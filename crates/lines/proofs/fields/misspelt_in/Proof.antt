@@ -1,7 +1,7 @@
 -- `misspelt_in`: no field before the place is bad. Assumes nothing.
 use Prim.Native.Nat.{suc, ◌-◌}
 use lib.ListN.{length}
-use Rattle.texts.specs.Proofs.Passes.{misspelt}
+use Rattle.texts.proofs.Beneath.Passes.{misspelt}
 use Rattle.lines.proofs.Loops.{Gone, gone_none, gone_more, gone_hit, gone_end, field_room}
 use borrow.Author.Rules.{rules}
 use Rattle.lines.proofs.fields.misspelt_in.Statement.{statement}

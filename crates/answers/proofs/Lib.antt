@@ -1,0 +1,4 @@
+pub mod Beneath
+pub mod Cases
+pub mod Main
+pub mod PrintingLaws

@@ -1,0 +1,4 @@
+pub mod Beneath
+pub mod Example
+pub mod Order
+pub mod Remarks

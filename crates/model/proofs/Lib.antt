@@ -1,0 +1,11 @@
+pub mod Beneath
+pub mod AtEnd
+pub mod Cases
+pub mod Conservation
+pub mod Demand2
+pub mod Demand3
+pub mod Kept
+pub mod Lowest
+pub mod StepTable
+pub mod Stopped
+pub mod Tested

@@ -1,0 +1,58 @@
+-- Demand 1 of the two texts: each refusal exactly under its condition, on its line; what was lent is then as it was. The
+-- condition of each number is on the page crates/texts/specs/Refused.antt, in the words of document 01's table.
+use Rattle.std.specs.Prelude.{refl}
+use Rattle.texts.proofs.Main as Texts
+use Rattle.texts.specs.Refused as Refusing
+use Rattle.rules.specs.declared.RulesAnswer.TheVariants as Rules
+use Rattle.nets.specs.declared.NetAnswer.TheVariants as Net
+use Rattle.review.specs.Words.{ℕ, ◌≡◌, List, [], ◌↔◌, length, Line, Book, Net, no_book, Begins, BadLine, records, rules_written, RulesRight, RuleWrong, RulesRefused, headed, faced, net_written, NetRight, NetWrong, NetRefused, GoodBook, table_bytes, Given, NetAnswer}
+use Rattle.review.specs.Promises.{StateArray, RulesCall, NetCall}
+use Rattle.review.proofs.Beneath.Texts as Proof
+
+-- READ_RULES, lent a text and a table, that leaves the table u.
+pub rules-refused : (text table u : List ℕ) (n j : ℕ)
+    → RulesCall text table (Rules.Refused n j) u ↔ (RulesRefused text n j × (u ≡ table))
+rules-refused = Proof.rules-refused
+
+-- READ_NET, lent a text, a table and a state v, that leaves the state v'.
+module _ (text : List ℕ) {v v' : List ℕ} (lent : StateArray v) (after : StateArray v') where
+  -- Over the table of a book, and so by its agents.
+  pub net-refused : (b : Book) → GoodBook b → (n j : ℕ)
+      → NetCall text (table_bytes b) v (Net.Refused n j) v' ↔ (NetRefused b.agents text n j × (v' ≡ v))
+  net-refused = Proof.net-refused text lent after
+
+  -- 16: "A net reader lent an unsound table answers 16, line 0, before all else."
+  pub net_16 : (w : List ℕ) → ¬ Given w → (r : NetAnswer) → NetCall text w v r v' ↔ ((r ≡ Net.Refused 16 0) × (v' ≡ v))
+  net_16 = Proof.net_16 text lent after
+
+-- "A header's count is only compared with the records found." Of two rule texts that differ in the counts of their headers
+-- alone, the bad line of one is that of the other, by the same number;
+pub bad_line_wins : (text text' table : List ℕ) (m k m' k' : ℕ) (ls : List Line)
+    → Begins rules_written RulesRight text (records m k no_book) ls
+    → Begins rules_written RulesRight text' (records m' k' no_book) ls
+    → (n j : ℕ) → BadLine rules_written RulesRight text RuleWrong n j → RulesCall text' table (Rules.Refused n j) table
+bad_line_wins text text' table m k m' k' ls g h n j d =
+    (rules-refused text' table table n j).1 (Refusing.RulesRefused.bad_line (Texts.bad_line_wins text text' m k m' k' ls g h n j d), refl)
+
+-- and where all lines are good, a count that is not that of the records found gives 11 on line 1.
+pub header_lies : (text table : List ℕ) (m k : ℕ) (b : Book) → Begins rules_written RulesRight text (records m k b) []
+    → ¬ ((m ≡ length b.agents) × (k ≡ length b.rules)) → RulesCall text table (Rules.Refused 11 1) table
+header_lies text table m k b g u =
+    (rules-refused text table table 11 1).1 (Refusing.RulesRefused.miscounted g u, refl)
+
+-- The same of net texts, over the table of a book.
+module _ (b : Book) (good : GoodBook b) {v : List ℕ} (lent : StateArray v) where
+  pub net-bad_line_wins : (text text' : List ℕ) (m k m' k' : ℕ) (ls : List Line)
+      → Begins net_written (NetRight b.agents) text (headed m k) ls
+      → Begins net_written (NetRight b.agents) text' (headed m' k') ls
+      → (n j : ℕ) → BadLine net_written (NetRight b.agents) text (NetWrong b.agents) n j
+      → NetCall text' (table_bytes b) v (Net.Refused n j) v
+  net-bad_line_wins text text' m k m' k' ls g h n j d =
+      (net-refused text' lent lent b good n j).1
+      (Refusing.NetRefused.bad_line (Texts.net-bad_line_wins b.agents text text' m k m' k' ls g h n j d), refl)
+
+  pub net-header_lies : (text : List ℕ) (m k : ℕ) (t : Net)
+      → Begins net_written (NetRight b.agents) text (faced m k t) []
+      → ¬ ((m ≡ length t.face) × (k ≡ length t.equations)) → NetCall text (table_bytes b) v (Net.Refused 11 1) v
+  net-header_lies text m k t g u =
+      (net-refused text lent lent b good 11 1).1 (Refusing.NetRefused.miscounted g u, refl)

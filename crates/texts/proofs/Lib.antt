@@ -1,0 +1,4 @@
+pub mod Beneath
+pub mod Examples
+pub mod Main
+pub mod Words
