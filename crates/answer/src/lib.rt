@@ -11,7 +11,7 @@ use state::{Pile, count, loops};
 mod lines; // lines.rt: the lines of an answer
 
 // What the call answers: three refusals, or the length of the lines, the loops, the stuck pairs and the knot.
-#[derive(Drop)]
+#[derive(Clone, Copy)]
 pub enum EndAnswer {
     Unsound,
     Waits,

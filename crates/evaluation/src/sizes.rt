@@ -5,7 +5,7 @@ ghost use Rattle.evaluation.specs.Evaluated.{budget, output_max, output_size};
 use report::firsts::First;
 
 // "with budget 100,000 and a 65,536 byte output": LINES takes the lines after the first, SIZE all that is printed.
-#[derive(Drop)]
+#[derive(Clone, Copy)]
 pub struct Output;
 
 impl Output {

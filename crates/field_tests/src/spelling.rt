@@ -7,7 +7,7 @@ use scan::bytes::{head_byte, word_byte};
 
 // Where the pass stands, with the brackets open: before a term, in an identifier, after a bracket that closes, or past
 // a byte that no term has there.
-#[derive(Drop)]
+#[derive(Clone, Copy)]
 pub enum Scan {
     Want(usize),
     Word(usize),
@@ -17,7 +17,7 @@ pub enum Scan {
 
 // The field spells a term; or the place of the first byte that no term has there, which is the length where the field
 // ends too early.
-#[derive(Drop)]
+#[derive(Clone, Copy)]
 pub enum Spelling {
     Right,
     Wrong(usize),

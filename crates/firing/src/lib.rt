@@ -8,7 +8,7 @@ pub mod building; // building.rt: the arguments of the new cells, and the equati
 pub mod pairs; // pairs.rt: the interaction
 
 // Where each part of a frame begins: the arguments of the two cells stand first.
-#[derive(Drop)]
+#[derive(Clone, Copy)]
 pub struct Frame;
 
 impl Frame {

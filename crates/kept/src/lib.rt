@@ -9,7 +9,7 @@ use parts::Limits;
 use state::Part;
 
 // How many cells and names are in use, and a number below which no cell is free, and no name.
-#[derive(Drop)]
+#[derive(Clone, Copy)]
 pub struct Kept {
     pub cells: u16,
     pub names: u16,

@@ -9,7 +9,7 @@ use parts::Limits;
 use terms::words::{Found, byte_at, find_agent, part};
 
 // The place after what was passed; or some identifier has another number of arguments.
-#[derive(Drop)]
+#[derive(Clone, Copy)]
 pub enum Past {
     At(usize),
     Wrong,

@@ -5,7 +5,7 @@ pub mod words; // words.rt: the words of a part of a line, held against the agen
 pub mod names; // names.rt: the new names of a part, entered on a sheet
 
 // The two counts of a header; or the line is no header of that word.
-#[derive(Drop)]
+#[derive(Clone, Copy)]
 pub enum Header {
     Counts { upper: usize, lower: usize },
     Wrong,

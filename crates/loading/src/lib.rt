@@ -24,7 +24,7 @@ use terms::sheet;
 use terms::sheet::Sheet;
 
 // The codes of a net's terms: first those of `face`, then two for each equation.
-#[derive(Drop)]
+#[derive(Clone, Copy)]
 pub struct Codes;
 
 impl Codes {

@@ -14,7 +14,7 @@ use lent::both_sound;
 use parts::Limits;
 use state::Pile;
 
-#[derive(Drop)]
+#[derive(Clone, Copy)]
 pub enum StepAnswer {
     // the step was made
     Moved,
@@ -46,7 +46,7 @@ pub fn step(table: &[u8; Limits::TABLE], state: &mut [u16; Limits::STATE], pick:
 }
 
 // Each stop with the interactions made.
-#[derive(Drop)]
+#[derive(Clone, Copy)]
 pub enum RunAnswer {
     // nothing waits
     Ended(u32),

@@ -2,7 +2,7 @@
 use kept::Kept;
 
 // The budget is asked before the room.
-#[derive(Drop)]
+#[derive(Clone, Copy)]
 pub enum Outcome {
     // no interaction: wired, counted as a loop, or stuck
     Linked(Kept),

@@ -13,13 +13,13 @@ use parts::Limits;
 use state::Pile;
 
 // What a run carries from turn to turn, beside the state: the budget that is left, too.
-#[derive(Drop)]
+#[derive(Clone, Copy)]
 pub struct Running {
     pub kept: Kept,
     pub left: u32,
 }
 
-#[derive(Drop)]
+#[derive(Clone, Copy)]
 pub enum Turn {
     // a step was made
     On(Running),

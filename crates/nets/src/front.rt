@@ -25,7 +25,7 @@ use terms::words::part;
 use twice::Marks;
 
 // The header's fault; or its counts, and where the next line begins.
-#[derive(Drop)]
+#[derive(Clone, Copy)]
 pub enum First {
     Wrong {
         number: u8,
@@ -38,7 +38,7 @@ pub enum First {
 }
 
 // The fault of the `face` line; or how many terms it has, and where the next line begins.
-#[derive(Drop)]
+#[derive(Clone, Copy)]
 pub enum Second {
     Bad { number: u8 },
     Face { terms: usize, next: usize },

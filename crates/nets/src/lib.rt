@@ -19,7 +19,7 @@ use twice::Marks;
 use whole::read_lines;
 
 // The state is filled; or the number and the line of the refusal, and the state is as it was.
-#[derive(Drop)]
+#[derive(Clone, Copy)]
 pub enum NetAnswer {
     Accepted,
     Refused { number: u8, line: usize },

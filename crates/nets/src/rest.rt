@@ -17,7 +17,7 @@ use terms::sheet::Sheet;
 use twice::Marks;
 
 // No line is left; the next one has a fault; or it is read, and the one after it begins at a place.
-#[derive(Drop)]
+#[derive(Clone, Copy)]
 pub enum EqStep {
     Done,
     Fault { number: u8 },
@@ -25,7 +25,7 @@ pub enum EqStep {
 }
 
 // The number of the first bad line, 0 where there is none, and how many equations stand before it.
-#[derive(Drop)]
+#[derive(Clone, Copy)]
 pub struct Stop {
     pub number: u8,
     pub equations: usize,

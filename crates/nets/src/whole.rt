@@ -19,7 +19,7 @@ use terms::sheet::Sheet;
 use twice::{Marks, first_loose, lines_before};
 
 // The number and the line of a refusal; or number 0, and how many interface terms and equations there are.
-#[derive(Drop)]
+#[derive(Clone, Copy)]
 pub struct Outcome {
     pub number: u8,
     pub line: usize,

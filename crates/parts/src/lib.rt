@@ -6,7 +6,7 @@ ghost use Rattle.parts.specs.Sides.{code, side};
 ghost use Rattle.parts.specs.Typed.{plain, number, typed, equation};
 
 // The sizes of document 01. A size that the code cites is written here and in no other place.
-#[derive(Drop)]
+#[derive(Clone, Copy)]
 pub struct Limits;
 
 impl Limits {
@@ -101,22 +101,22 @@ pub fn figures()
 {}
 
 // The number of a name, of a cell and of a symbol: three types, so that none stands in for another.
-#[derive(Drop)]
+#[derive(Clone, Copy)]
 pub struct NameNo(pub u16);
 
-#[derive(Drop)]
+#[derive(Clone, Copy)]
 pub struct CellNo(pub u16);
 
-#[derive(Drop)]
+#[derive(Clone, Copy)]
 pub struct SymbolNo(pub u16);
 
-#[derive(Drop)]
+#[derive(Clone, Copy)]
 pub enum Side {
     Name(NameNo),
     Cell(CellNo),
 }
 
-#[derive(Drop)]
+#[derive(Clone, Copy)]
 pub struct Equation {
     pub left: Side,
     pub right: Side,

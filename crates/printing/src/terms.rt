@@ -14,7 +14,7 @@ use sound::passes::width_of;
 use state::{Part, name_word, read, symbol_word};
 
 // Where the next byte goes, the next number of a name, and the cells not yet met.
-#[derive(Drop)]
+#[derive(Clone, Copy)]
 pub struct Cursor {
     pub at: usize,
     pub next: u16,
@@ -22,7 +22,7 @@ pub struct Cursor {
 }
 
 // What a side is met as: a name that has a number, one that is bare, two that are joined, or a cell.
-#[derive(Drop)]
+#[derive(Clone, Copy)]
 pub enum Met {
     Numbered(u16),
     Bare(NameNo),

@@ -7,7 +7,7 @@ use crate::fields::{put_bytes, put_field, put_number_field};
 use printing::leaves::put;
 
 // The room that a first line may take: words of at most 8 bytes and numbers of at most 20 digits.
-#[derive(Drop)]
+#[derive(Clone, Copy)]
 pub struct First;
 
 impl First {

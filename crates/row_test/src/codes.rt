@@ -13,7 +13,7 @@ use parts::Limits;
 use table::Layout;
 use table::reading::{arity_of, copy_in, less_one, part, symbol_no, wide};
 
-#[derive(Drop)]
+#[derive(Clone, Copy)]
 pub struct Codes {
     pub used: usize,
     pub list: [u8; Layout::SIDES],

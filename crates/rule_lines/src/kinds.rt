@@ -10,7 +10,7 @@ use scan::numbers::{Number, decimal};
 use scan::words::same;
 
 // An agent with its arity, which number 5 judges; a rule; or no record that may stand there.
-#[derive(Drop)]
+#[derive(Clone, Copy)]
 pub enum Kind {
     Agent(usize),
     Rule,

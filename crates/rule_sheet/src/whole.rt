@@ -20,14 +20,14 @@ use terms::sheet::Sheet;
 use terms::words::{Found, find_agent};
 
 // An agent's symbol and arity.
-#[derive(Drop)]
+#[derive(Clone, Copy)]
 pub struct Head {
     pub symbol: SymbolNo,
     pub arity: usize,
 }
 
 // The symbols of the two left agents.
-#[derive(Drop)]
+#[derive(Clone, Copy)]
 pub struct Heads {
     pub left: SymbolNo,
     pub right: SymbolNo,

@@ -11,7 +11,7 @@ mod line; // line.rt: one line, over the book so far
 mod text; // text.rt: the lines of a text, and the table that they make
 
 // A text is accepted, or refused with document 01's number and line.
-#[derive(Drop)]
+#[derive(Clone, Copy)]
 pub enum RulesAnswer {
     Accepted,
     Refused { number: u8, line: usize },

@@ -30,7 +30,7 @@ fn part<'a>(a: &'a [u8], at: usize, b: u8) -> &'a [u8]
 
 // What stands in a text from a place on: a line with the place of its newline, bytes with no newline after them, or
 // nothing.
-#[derive(Drop)]
+#[derive(Clone, Copy)]
 pub enum NextLine {
     Ended(usize),
     Unended,

@@ -6,7 +6,7 @@ ghost use Rattle.scan.specs.Numbers.{value_of, digits_end, Digits};
 use crate::bytes::digit;
 
 // A number, or a field that is none.
-#[derive(Drop)]
+#[derive(Clone, Copy)]
 pub enum Number {
     Value(usize),
     Nothing,

@@ -11,7 +11,7 @@ ghost use Rattle.state.specs.Moves.{RoomOn, put_on, Pullable, out_of_waiting, do
 use parts::{CellNo, Equation, Limits, NameNo, decode_equation, encode};
 
 // Where each part begins. The counts stand first.
-#[derive(Drop)]
+#[derive(Clone, Copy)]
 pub struct Layout;
 
 impl Layout {
@@ -36,7 +36,7 @@ impl Layout {
     pub const FACE_AT: usize = Layout::STUCK_AT + 2 * Limits::STUCK;
 }
 
-#[derive(Drop)]
+#[derive(Clone, Copy)]
 pub enum Part {
     Symbols,
     Arguments,
@@ -47,7 +47,7 @@ pub enum Part {
 }
 
 // The parts that are lists, with a count of what is in them.
-#[derive(Drop)]
+#[derive(Clone, Copy)]
 pub enum Pile {
     Waits,
     Stucks,

@@ -6,7 +6,7 @@ pub mod reading; // reading.rt: what stands in a table
 pub mod writing; // writing.rt: an empty table
 
 // Where each part begins. The counts stand first.
-#[derive(Drop)]
+#[derive(Clone, Copy)]
 pub struct Layout;
 
 impl Layout {
@@ -31,7 +31,7 @@ impl Layout {
 
 // A rule: the symbols of its left side, how many equations, cells and new names its right side has, the codes of the equations' sides, and of
 // each cell the symbol + 1 and the codes of its arguments.
-#[derive(Drop)]
+#[derive(Clone, Copy)]
 pub struct Rule {
     pub left: u8,
     pub right: u8,
@@ -43,7 +43,7 @@ pub struct Rule {
 }
 
 // The rule of a pair of symbols: none, or its number, as it is written or with its sides exchanged.
-#[derive(Drop)]
+#[derive(Clone, Copy)]
 pub enum Match {
     Nothing,
     Straight(u16),

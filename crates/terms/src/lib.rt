@@ -14,14 +14,14 @@ use sheet::Sheet;
 use words::Found;
 
 // What was read: the place after it and its code; or nothing that may stand there.
-#[derive(Drop)]
+#[derive(Clone, Copy)]
 pub enum Got {
     Read { next: usize, code: u16 },
     Wrong,
 }
 
 // The head of a term: one that takes no arguments, with its code; a cell that takes one and so many more; or none.
-#[derive(Drop)]
+#[derive(Clone, Copy)]
 pub enum Head {
     Plain { code: u16 },
     Takes { cell: CellNo, more: u16 },
@@ -29,7 +29,7 @@ pub enum Head {
 }
 
 // The code of the term that a field spells; or the field is wrong.
-#[derive(Drop)]
+#[derive(Clone, Copy)]
 pub enum Field {
     Code(u16),
     Wrong,

@@ -6,7 +6,7 @@ ghost use Rattle.terms.specs.Sheet.{view, begins, size, words, stored, counted_c
 use parts::{CellNo, Limits, NameNo, SymbolNo};
 
 // Sizes that follow from those of `Limits`: of a lent list of agents and of a lent sheet.
-#[derive(Drop)]
+#[derive(Clone, Copy)]
 pub struct Sheet;
 
 impl Sheet {
@@ -25,7 +25,7 @@ impl Sheet {
     pub const SIZE: usize = Sheet::PLACES_AT + 2 * Limits::NET_NAMES;
 }
 
-#[derive(Drop)]
+#[derive(Clone, Copy)]
 pub enum Part {
     Symbols,
     Arguments,

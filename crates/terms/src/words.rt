@@ -13,7 +13,7 @@ use scan::cutting::find;
 use scan::words::same;
 
 // A declared agent, by its number and arity; or nothing of that spelling.
-#[derive(Drop)]
+#[derive(Clone, Copy)]
 pub enum Found {
     Agent { symbol: SymbolNo, arity: u16 },
     Nothing,

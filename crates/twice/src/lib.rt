@@ -17,7 +17,7 @@ use terms::sheet;
 use terms::sheet::Sheet;
 
 // One mark for each line of terms: how many names there are after it.
-#[derive(Drop)]
+#[derive(Clone, Copy)]
 pub struct Marks;
 
 impl Marks {

@@ -1,0 +1,14 @@
+-- `scan::bytes::first_bad` meets its contract: the loop's invariant is `Scanned`.
+use Prim.Native.Nat.{◌-◌}
+use mathlib.Core.Bool.{not}
+use lib.ListN.{length}
+use borrow.Author.Rules.{rules}
+use Rattle.texts.specs.Bytes.{allowed}
+use Rattle.scan.proofs.Scans.{Scanned, scanned_none, scanned_more, scanned_hit, scanned_end, told_not, from_front}
+use Rattle.scan.proofs.bytes.first_bad.Given as goal
+
+abbrev pub invariant-loop-i : goal.invariant-loop-i
+invariant-loop-i l = Scanned (λ b. not (allowed b)) l.line 0 l.i
+
+abbrev pub decreases-loop-i : goal.decreases-loop-i
+decreases-loop-i l = length l.line - l.i

@@ -1,0 +1,10 @@
+-- `scan::words::symbol` meets its contract: a law for each way out.
+use borrow.Author.Rules.{rules}
+use Rattle.scan.proofs.Compare.{symbol_asks, whole-empty, whole-stop}
+use Rattle.scan.proofs.words.symbol.Goals as goal
+
+pub returns-then-w-eq0 : goal.returns-then-w-eq0
+returns-then-w-eq0 c = whole-empty _ _ symbol_asks _ c.if-w-eq0.true
+
+pub returns : goal.returns
+returns c = whole-stop _ _ symbol_asks _ c.if-w-eq0.false _ c.symbol_stop.ensures
