@@ -1,5 +1,6 @@
 // The lent state: one array of words, its parts by their tags, and typed accessors above them.
 #![tactic(auto)]
+
 ghost use Rattle.std.specs.Prelude.{◌≡◌, ℕ, ◌+◌, ◌-◌, ◌*◌, ◌<◌, ◌≤◌, min, length, get_or, set};
 ghost use Rattle.parts.specs.Limits.{arity_max, cells_max, names_max, waiting_max, stuck_max};
 ghost use Rattle.state.specs.Layout.{state_size, view};

@@ -1,5 +1,6 @@
 // The lent rule table: one array of bytes, its places, what stands in it, and the rule of a pair of symbols.
 #![tactic(auto)]
+
 use parts::Limits;
 
 pub mod reading; // reading.rt: what stands in a table

@@ -1,5 +1,6 @@
 // The term reader and the argument-list reader, which call each other, the levels left of 64 falling.
 #![tactic(auto)]
+
 pub mod sheet; // sheet.rt: the sheet that terms are read onto
 pub mod words; // words.rt: words of a text, agents and names looked up by them
 

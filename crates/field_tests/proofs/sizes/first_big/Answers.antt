@@ -1,0 +1,18 @@
+-- `field_tests::sizes::first_big` meets its contract: the loop's invariant is `Sought`.
+use Prim.Native.Nat.{◌-◌}
+use lib.ListN.{length}
+use borrow.Author.Rules.{rules}
+use Rattle.field_tests.proofs.Bounds.{Sought, sought_none, sought_more, sought_hit, sought_end}
+use Rattle.field_tests.proofs.sizes.first_big.Goals as goal
+
+pub loop-i-init : goal.loop-i-init
+loop-i-init c = sought_none _
+
+pub returns-then-passes : goal.returns-then-passes
+returns-then-passes c = search (rules, sought_hit)
+
+pub loop-i-preserved : goal.loop-i-preserved
+loop-i-preserved c = search (rules, sought_more)
+
+pub returns : goal.returns
+returns c = search (rules, sought_end)

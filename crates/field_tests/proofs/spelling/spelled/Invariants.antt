@@ -1,0 +1,12 @@
+-- `field_tests::spelling::spelled` meets its contract: the loop's invariant is `Ran`.
+use Prim.Native.Nat.{◌-◌}
+use lib.ListN.{length}
+use borrow.Author.Rules.{rules}
+use Rattle.field_tests.proofs.Steps.{Ran, ran_none, ran_more, ran-wrong, ran_right, ran-short}
+use Rattle.field_tests.proofs.spelling.spelled.Given as goal
+
+abbrev pub invariant-loop-i : goal.invariant-loop-i
+invariant-loop-i l = Ran l.field l.s l.i
+
+abbrev pub decreases-loop-i : goal.decreases-loop-i
+decreases-loop-i l = length l.field - l.i

@@ -1,0 +1,7 @@
+-- `table::reading::agent_byte` meets its contract.
+use Rattle.table.proofs.Laws.{agent_get}
+use borrow.Author.Rules.{rules}
+use Rattle.table.proofs.reading.agent_byte.Goals as goal
+
+pub returns : goal.returns
+returns c = search (rules, agent_get)

@@ -1,0 +1,7 @@
+-- `table::reading::rule_byte` meets its contract.
+use Rattle.table.proofs.Laws.{rule_get}
+use borrow.Author.Rules.{rules}
+use Rattle.table.proofs.reading.rule_byte.Goals as goal
+
+pub returns : goal.returns
+returns c = search (rules, rule_get)

@@ -1,0 +1,7 @@
+-- `table::writing::empty_table` meets its contract.
+use mathlib.Core.Path.{sym}
+use Rattle.table.specs.Laws.Whole.{nothing-bytes}
+use Rattle.table.proofs.writing.empty_table.Goals as goal
+
+pub returns : goal.returns
+returns c = sym nothing-bytes

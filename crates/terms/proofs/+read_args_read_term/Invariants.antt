@@ -1,0 +1,13 @@
+-- `read_term` and `read_args` meet their contracts: the measure falls with the levels left, and with the arguments left. Assumes nothing.
+use Rattle.terms.specs.Proofs.Ways.{at_word_end, args-wrong, args-close, args_unclosed, args_comma, args-few, term_none, term-empty, term-wrong, term_bracket, term-plain, term-args, term-bare}
+use Rattle.terms.specs.Proofs.Heads.{takes-small}
+use borrow.Author.Rules.{rules}
+use native.Mathlib.Omega.{arith}
+use Prim.Native.Nat.{ℕ, ◌<◌, ◌*◌, ◌+◌}
+use Rattle.terms.proofs.+read_args_read_term.Given as goal
+
+abbrev pub decreases-read_args : goal.decreases-read_args
+decreases-read_args l = l.levels * 6 + 1 + l.more
+
+abbrev pub decreases-read_term : goal.decreases-read_term
+decreases-read_term l = l.levels * 6
