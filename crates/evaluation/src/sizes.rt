@@ -18,7 +18,7 @@ impl Output {
 
 // The figures of the code are those of the specs page.
 pub fn figures()
-    ensures* do_value { do ⌜ (← (⟦Output::BUDGET⟧).entry) ≡ budget ⌝ }
-    ensures* do_value_2 { do ⌜ (← (⟦Output::LINES⟧).entry) ≡ output_max ⌝ }
-    ensures* do_value_3 { do ⌜ (← (⟦Output::SIZE⟧).entry) ≡ output_size ⌝ }
+    ensures budget { Output.BUDGET ≡ budget }
+    ensures lines { Output.LINES ≡ output_max }
+    ensures size { Output.SIZE ≡ output_size }
 {}

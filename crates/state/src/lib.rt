@@ -57,7 +57,7 @@ pub enum Pile {
 
 // A lent state has as many words as the specs page says.
 pub fn figures()
-    ensures* { do ⌜ (← (⟦Limits::STATE⟧).entry) ≡ state_size ⌝ }
+    ensures { Limits.STATE ≡ state_size }
 {}
 
 // A state with nothing in it.
