@@ -1,5 +1,6 @@
 // What a run keeps beside a lent state, so that no step counts cells and names again.
 #![tactic(auto)]
+
 ghost use Rattle.std.specs.Prelude.{◌≡◌, ℕ, ◌≤◌};
 ghost use Rattle.parts.specs.Limits.{cells_max, names_max};
 ghost use Rattle.state.specs.Layout.{view};

@@ -1,5 +1,6 @@
 // A net that was read, written into the lent state: nothing in the state is tested, and all of it is written.
 #![tactic(auto)]
+
 ghost use Rattle.std.specs.Prelude.{◌≡◌, ◌+◌, ◌*◌, ◌<◌, ◌≤◌, pred, length, get_or};
 ghost use Rattle.parts.specs.Limits.{arity_max, face_max, net_cells_max, net_names_max, net_equations_max, symbols_max};
 ghost use Rattle.parts.specs.Sides.{side};

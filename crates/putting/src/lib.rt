@@ -1,5 +1,6 @@
 // One agent more in a table, or one rule more: its row, its places in the index of pairs, and the count.
 #![tactic(auto)]
+
 ghost use Rattle.std.specs.Prelude.{◌≡◌, [], ◌∷◌, suc, ◌+◌, ◌*◌, ◌-◌, ◌/◌, ◌%◌, ◌<◌, ◌≤◌, pred, length, get_or, set};
 ghost use Rattle.std.proofs.lemmas.List.Edits.{sets};
 ghost use Rattle.parts.specs.Limits.{identifier_max, symbols_max, rules_max, rule_size, table_size};

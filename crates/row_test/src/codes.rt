@@ -68,7 +68,7 @@ pub fn gather(table: &[u8; Limits::TABLE], row: &[u8]) -> Codes
 }
 
 // A name is an argument of the left agent, one of the right agent, or one of the new names; a cell is one of the rule's.
-fn code_ok_lem(x: u8, left: usize, right: usize, names: usize, cells: usize) -> bool
+fn code_ok(x: u8, left: usize, right: usize, names: usize, cells: usize) -> bool
     requires { (left < 256) × (right < 256) × (names < 256) }
     ensures { result ≡ code_fits left right names cells x }
 {
@@ -103,7 +103,7 @@ pub fn codes_ok(codes: Codes, left: usize, right: usize, names: usize, cells: us
     let used = codes.used;
     let mut i: usize = 0;
     while i < used {
-        if code_ok_lem(list[i], left, right, names, cells) {
+        if code_ok(list[i], left, right, names, cells) {
             i += 1;
         } else {
             return false;

@@ -1,5 +1,6 @@
 // A rule of a symbol with itself reads the same from both sides.
 #![tactic(auto)]
+
 ghost use Rattle.std.specs.Prelude.{◌≡◌, ◌&&◌, ◌+◌, ◌*◌, ◌-◌, ◌<◌, ◌≤◌, length, get_or, eqb, List};
 ghost use Rattle.texts.specs.Books.{Agent};
 ghost use Rattle.parts.specs.Limits.{rule_equations_max, rule_size};

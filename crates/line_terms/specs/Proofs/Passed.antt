@@ -131,7 +131,7 @@ module _ (text : List ℕ) (ags : List Agent) where
   args_after (cons x xs) U l lv (suc m) q rest e wd b d one at o h =
       let A = U.run l lv m (q + 1) rest (omega arith) e wd b (skip_one text q 44 ((spell x ++ closing xs) ++ rest) d) in
       let len : q + 1 + length (spell x ++ closing xs) ≡ q + suc (length (spell x ++ closing xs)) = omega arith in
-      rw (h, o, eq-eqb (get_or text q 0) 44 (here text q 44 ((spell x ++ closing xs) ++ rest) d), eqb-suc-suc (suc (count xs)) (suc m)) (rw len at A)
+      rw (h, eq-eqb (get_or text q 0) 44 (here text q 44 ((spell x ++ closing xs) ++ rest) d), eqb-suc-suc (suc (count xs)) (suc m)) (rw (← o, len) at A)
 
   args-lost : (one : ℕ → Past) (more at : ℕ) → one at ≡ Past.Wrong → args_past text one more at ≡ Past.Wrong
   unfolding args_past on_past

@@ -1,0 +1,13 @@
+-- `misspelt_in`: no field before the place is bad. Assumes nothing.
+use Prim.Native.Nat.{suc, ◌-◌}
+use lib.ListN.{length}
+use Rattle.texts.proofs.Beneath.Passes.{misspelt}
+use Rattle.lines.proofs.Loops.{Gone, gone_none, gone_more, gone_hit, gone_end, field_room}
+use borrow.Author.Rules.{rules}
+use Rattle.lines.proofs.fields.misspelt_in.Given as goal
+
+abbrev pub invariant-loop-at : goal.invariant-loop-at
+invariant-loop-at l = Gone misspelt l.part l.at
+
+abbrev pub decreases-loop-at : goal.decreases-loop-at
+decreases-loop-at l = suc (length l.part) - l.at

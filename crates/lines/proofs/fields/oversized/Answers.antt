@@ -1,0 +1,11 @@
+-- `oversized`: one law for each way out. Assumes nothing.
+use Rattle.lines.proofs.Ways.{oversized_none, oversized_some}
+use borrow.Author.Rules.{rules}
+use borrow.Author.Rules.{rules}
+use Rattle.lines.proofs.fields.oversized.Goals as goal
+
+pub returns-then-field_count-k : goal.returns-then-field_count-k
+returns-then-field_count-k c = search (rules, oversized_none, oversized_some)
+
+pub returns : goal.returns
+returns c = search (rules, oversized_none, oversized_some)

@@ -1,0 +1,7 @@
+-- `loading::write_cell` meets its contract.
+use Rattle.loading.proofs.Lays.{cell_way}
+use borrow.Author.Rules.{rules}
+use Rattle.loading.proofs.write_cell.Goals as goal
+
+pub returns : goal.returns
+returns c = search (rules, cell_way)

@@ -1,0 +1,11 @@
+-- `loading::write_equations` meets its contract.
+use Rattle.state.specs.Layout.{view}
+use Rattle.loading.proofs.Lays.{Stacking, stack_none, stack-room, stack_more, stack_end}
+use borrow.Author.Rules.{rules}
+use Rattle.loading.proofs.write_equations.Given as goal
+
+abbrev pub invariant-loop-k : goal.invariant-loop-k
+invariant-loop-k l = Stacking l.codes l.f l.n (view l.initial.state) (view l.state) l.k
+
+abbrev pub decreases-loop-k : goal.decreases-loop-k
+decreases-loop-k l = l.k

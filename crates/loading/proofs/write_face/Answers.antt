@@ -1,0 +1,17 @@
+-- `loading::write_face` meets its contract.
+use Prim.Native.Nat.{◌-◌}
+use lib.ListN.{get_or}
+use Rattle.state.specs.Layout.{view}
+use Rattle.state.specs.declared.Part.TheVariants.{Face}
+use Rattle.loading.proofs.Lays.{Laying, lay_none, lay_on, face_end}
+use borrow.Author.Rules.{rules}
+use Rattle.loading.proofs.write_face.Goals as goal
+
+pub loop-i-init : goal.loop-i-init
+loop-i-init c = search (rules, lay_none)
+
+pub loop-i-preserved : goal.loop-i-preserved
+loop-i-preserved c = search (rules, lay_on)
+
+pub returns : goal.returns
+returns c = search (rules, face_end)

@@ -1,0 +1,12 @@
+-- `row_test::codes::gather` meets its contract.
+use native.Mathlib.Omega.{arith}
+use borrow.Author.Rules.{rules}
+use Prim.Native.Nat.{◌-◌}
+use Rattle.row_test.proofs.Coding.{Gathering, gathering_none, gathering_room, gathering_more, gathering_end}
+use Rattle.row_test.proofs.codes.gather.Given as goal
+
+abbrev pub invariant-loop-c : goal.invariant-loop-c
+invariant-loop-c l = Gathering l.table l.row l.list l.used l.c
+
+abbrev pub decreases-loop-c : goal.decreases-loop-c
+decreases-loop-c l = l.m - l.c
