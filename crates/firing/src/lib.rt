@@ -1,5 +1,6 @@
 // An interaction on a lent state, in place: two cells freed, and the right side of their rule built from the lowest free numbers.
 #![tactic(auto)]
+
 use parts::Limits;
 
 pub mod frames; // frames.rt: what the names and cells of a right side stand for

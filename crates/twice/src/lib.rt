@@ -1,5 +1,6 @@
 // "each name occurs exactly twice": how often a name stands in a net that was read, and the line of the earliest that stands otherwise.
 #![tactic(auto)]
+
 ghost use Rattle.std.specs.Prelude.{◌≡◌, not, ◌+◌, ◌*◌, ◌<◌, ◌≤◌, eqb, get_or};
 ghost use Rattle.parts.specs.Limits.{arity_max, face_max, net_cells_max, net_names_max, net_equations_max};
 ghost use Rattle.parts.specs.Sides.{name, side};

@@ -1,5 +1,6 @@
 // The wiring of an equation with a name on some side, on a lent state and with what a run keeps beside it.
 #![tactic(auto)]
+
 ghost use Rattle.std.specs.Prelude.{◌≡◌, ◌+◌, ◌-◌, ◌<◌, min};
 ghost use Rattle.parts.specs.Limits.{cells_max, names_max};
 ghost use Rattle.parts.specs.Typed.{number};

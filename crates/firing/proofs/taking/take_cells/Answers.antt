@@ -1,0 +1,22 @@
+-- `firing::taking::take_cells` meets its contract.
+use Rattle.firing.proofs.Takes.{Taking, cells_none, cell_takeable, cell-small, cell_more, cells-state, cells-frame, cells-passed}
+use Rattle.firing.specs.Frames.{cells_at}
+use Rattle.firing.specs.Taken.{cell_code}
+use Rattle.firing.specs.Built.{cells_of, symbol_word}
+use Rattle.state.specs.Layout.{view}
+use Prim.Native.Nat.{◌-◌}
+use Rattle.state.specs.declared.Part.TheVariants.{Symbols}
+use borrow.Author.Rules.{rules}
+use Rattle.firing.proofs.taking.take_cells.Goals as goal
+
+pub loop-m-init : goal.loop-m-init
+loop-m-init c = search (rules, cells_none)
+
+pub take_cell-from-requires : goal.take_cell-from-requires
+take_cell-from-requires c = search (rules, cell_takeable, cell-small)
+
+pub loop-m-preserved : goal.loop-m-preserved
+loop-m-preserved c = search (rules, cell_more)
+
+pub returns : goal.returns
+returns c = search (rules, cells-state, cells-frame, cells-passed)

@@ -1,0 +1,27 @@
+-- `rule_tests::sizes::new_names`: n names before the place stand last there.
+use borrow.Author.Rules.{rules}
+use Prim.Native.Nat.{◌-◌}
+use lib.ListN.{length}
+use Rattle.scan.specs.Words.{words_in}
+use Rattle.terms.specs.Agents.{agents_of}
+use Rattle.rule_tests.specs.Words.{new_word}
+use Rattle.rule_tests.proofs.Loops.{Counted, counted_none, counted_end, counted_last, counted_more, word-order, word_less}
+use Rattle.rule_tests.proofs.sizes.new_names.Goals as goal
+
+pub loop-at-init : goal.loop-at-init
+loop-at-init c = search (rules, counted_none)
+
+pub returns-then-right-from : goal.returns-then-right-from
+returns-then-right-from c = search (rules, counted_last)
+
+pub overflow_sub-to : goal.overflow_sub-to
+overflow_sub-to c = search (rules, word-order)
+
+pub loop-at-smaller : goal.loop-at-smaller
+loop-at-smaller c = search (rules, word_less)
+
+pub loop-at-preserved : goal.loop-at-preserved
+loop-at-preserved c = search (rules, counted_more)
+
+pub returns : goal.returns
+returns c = search (rules, counted_end)

@@ -1,0 +1,13 @@
+-- `rule_tests::sizes::too_big` meets its contract.
+use Rattle.rule_tests.proofs.Ways.{big-nodes, big_right, big_book}
+use borrow.Author.Rules.{rules}
+use Rattle.rule_tests.proofs.sizes.too_big.Goals as goal
+
+pub returns-then-oversized : goal.returns-then-oversized
+returns-then-oversized c = search (rules, big-nodes)
+
+pub returns-then-right_big : goal.returns-then-right_big
+returns-then-right_big c = search (rules, big_right)
+
+pub returns : goal.returns
+returns c = search (rules, big_book)

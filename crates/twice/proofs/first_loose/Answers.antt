@@ -1,0 +1,20 @@
+-- `twice::first_loose` meets its contract.
+use Prim.Native.Nat.{◌-◌}
+use Rattle.table.specs.Layout.{agents_in}
+use Rattle.terms.specs.Sheet.{view}
+use Rattle.twice.specs.Counting.{loose_on}
+use Rattle.twice.proofs.Counts.{Seeking, seek_start, seek_found, seek_more, seek_end}
+use borrow.Author.Rules.{rules}
+use Rattle.twice.proofs.first_loose.Goals as goal
+
+pub loop-x-init : goal.loop-x-init
+loop-x-init c = search (rules, seek_start)
+
+pub returns-then-loose : goal.returns-then-loose
+returns-then-loose c = search (rules, seek_found)
+
+pub loop-x-preserved : goal.loop-x-preserved
+loop-x-preserved c = search (rules, seek_more)
+
+pub returns : goal.returns
+returns c = search (rules, seek_end)

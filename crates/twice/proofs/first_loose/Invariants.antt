@@ -1,0 +1,14 @@
+-- `twice::first_loose` meets its contract.
+use Prim.Native.Nat.{◌-◌}
+use Rattle.table.specs.Layout.{agents_in}
+use Rattle.terms.specs.Sheet.{view}
+use Rattle.twice.specs.Counting.{loose_on}
+use Rattle.twice.proofs.Counts.{Seeking, seek_start, seek_found, seek_more, seek_end}
+use borrow.Author.Rules.{rules}
+use Rattle.twice.proofs.first_loose.Given as goal
+
+abbrev pub invariant-loop-x : goal.invariant-loop-x
+invariant-loop-x l = Seeking (loose_on (agents_in l.table) (view l.sheet) l.codes l.n) (view l.sheet).names l.x
+
+abbrev pub decreases-loop-x : goal.decreases-loop-x
+decreases-loop-x l = l.most - l.x

@@ -1,0 +1,7 @@
+-- `twice::loose` meets its contract.
+use Rattle.twice.proofs.Counts.{loose_way}
+use borrow.Author.Rules.{rules}
+use Rattle.twice.proofs.loose.Goals as goal
+
+pub returns : goal.returns
+returns c = search (rules, loose_way)

@@ -1,0 +1,17 @@
+-- `twice::times_in_cell` meets its contract.
+use Prim.Native.Nat.{◌+◌, ◌*◌, ◌-◌, ◌≤◌}
+use lib.ListN.{get_or}
+use Rattle.parts.specs.Limits.{arity_max}
+use Rattle.terms.specs.Sheet.{view}
+use Rattle.twice.proofs.Counts.{Tallying, tally_start, tally_more, args_end}
+use borrow.Author.Rules.{rules}
+use Rattle.twice.proofs.times_in_cell.Goals as goal
+
+pub loop-k-init : goal.loop-k-init
+loop-k-init c = search (rules, tally_start)
+
+pub loop-k-preserved : goal.loop-k-preserved
+loop-k-preserved c = search (rules, tally_more)
+
+pub returns : goal.returns
+returns c = search (rules, args_end)

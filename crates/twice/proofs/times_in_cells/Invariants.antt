@@ -1,0 +1,13 @@
+-- `twice::times_in_cells` meets its contract.
+use Prim.Native.Nat.{◌-◌}
+use Rattle.table.specs.Layout.{agents_in}
+use Rattle.terms.specs.Sheet.{view}
+use Rattle.twice.proofs.Counts.{Celled, cells_start, cells_more, cells_end, cell-fits, sum_fits}
+use borrow.Author.Rules.{rules}
+use Rattle.twice.proofs.times_in_cells.Given as goal
+
+abbrev pub invariant-loop-c : goal.invariant-loop-c
+invariant-loop-c l = Celled (agents_in l.table) (view l.sheet) l.x l.found l.c
+
+abbrev pub decreases-loop-c : goal.decreases-loop-c
+decreases-loop-c l = l.n - l.c

@@ -1,0 +1,7 @@
+-- `wiring::put_cells` meets its contract.
+use Rattle.wiring.proofs.Wires.{put_way}
+use borrow.Author.Rules.{rules}
+use Rattle.wiring.proofs.put_cells.Goals as goal
+
+pub returns : goal.returns
+returns c = search (rules, put_way)

@@ -1,0 +1,7 @@
+-- `wiring::rename` meets its contract.
+use Rattle.wiring.proofs.Keeps.{rename_way}
+use borrow.Author.Rules.{rules}
+use Rattle.wiring.proofs.rename.Goals as goal
+
+pub returns : goal.returns
+returns c = search (rules, rename_way)

@@ -1,0 +1,10 @@
+-- `wiring::set_name` meets its contract.
+use Rattle.wiring.proofs.Keeps.{renamable, set_way}
+use borrow.Author.Rules.{rules}
+use Rattle.wiring.proofs.set_name.Goals as goal
+
+pub rename-requires : goal.rename-requires
+rename-requires c = search (rules, renamable)
+
+pub returns : goal.returns
+returns c = search (rules, set_way)
