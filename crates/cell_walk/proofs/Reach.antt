@@ -68,14 +68,15 @@ module _ (mem : ℕ → Model.Cell) (ss : List ℕ) (narrow : (c : ℕ) → leng
   unfolding search_from
   walks_search k ℕ.zero h l = absurd (omega arith)
   walks_search done (ℕ.suc n) h l = refl
-  walks_search (past {x = x} p k) (ℕ.suc n) h l = name-past x (dec_lt x names_max) _ p ∙ walks_search k n (omega arith) l
+  walks_search (past {x = x} {todo = todo} p k) (ℕ.suc n) h l =
+      name-past x (dec_lt x names_max) _ p ∙ walks_search {todo = todo} k n (omega arith) l
   walks_search (beyond {x = x} p) (ℕ.suc n) h l = name-beyond x (dec_lt x names_max) _ p
   walks_search (again {c = c} {seen = seen} p) (ℕ.suc n) h l = cell-again (get_or seen c 0) (get_or ss c 0) _ p
   walks_search (unused {c = c} {seen = seen} p) (ℕ.suc n) h l = cell-unused (get_or seen c 0) (get_or ss c 0) _ p
   walks_search (into {c = c} {todo = todo} {seen = seen} p q k) (ℕ.suc n) h l =
       let i : c < length seen = omega (arith, l, some_inside ss c q) in
       cell-into (get_or seen c 0) (get_or ss c 0) _ p q
-      ∙ walks_search k n (omega (arith, length-append (mem c).args todo, narrow c, unmet-set seen c i p)) (length-set seen c 1 ∙ l)
+      ∙ walks_search {todo = (mem c).args ++ todo} k n (omega (arith, length-append (mem c).args todo, narrow c, unmet-set seen c i p)) (length-set seen c 1 ∙ l)
 
 unmet-zeros : (n : ℕ) → unmet (zeros n) ≡ n
 unfolding unmet

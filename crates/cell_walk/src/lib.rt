@@ -1,5 +1,6 @@
 // The walk over cells, from interface, waiting equations, ties and joins, and stuck pairs.
 #![tactic(auto)]
+
 ghost use Rattle.std.specs.Prelude.{◌≡◌, ◌+◌, ◌*◌, ◌<◌, ◌≤◌, [], ◌∷◌, length, get_or};
 ghost use Rattle.parts.specs.Limits.{cells_max, names_max};
 ghost use Rattle.parts.specs.Sides.{side};

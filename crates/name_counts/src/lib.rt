@@ -1,5 +1,6 @@
 // How often each name stands in a state: a search of the whole state for each of them.
 #![tactic(auto)]
+
 ghost use Rattle.std.specs.Prelude.{◌≡◌, ◌+◌, ◌*◌, ◌<◌, ◌≤◌};
 ghost use Rattle.parts.specs.Limits.{arity_max, cells_max, names_max};
 ghost use Rattle.parts.specs.Sides.{side};

@@ -1,5 +1,6 @@
 // The test of the stuck pairs: each is of two cells with no rule.
 #![tactic(auto)]
+
 ghost use Rattle.std.specs.Prelude.{◌≡◌, ◌<◌, pred, get_or};
 ghost use Rattle.parts.specs.Limits.{symbols_max, stuck_max};
 ghost use Rattle.model.specs.State.{listed};

@@ -13,7 +13,10 @@ pub drop_bond-k2-requires : goal.drop_bond-k2-requires
 drop_bond-k2-requires c = search (rules, wirable-once)
 
 pub fasten-requires : goal.fasten-requires
-fasten-requires c = ((search (rules, wirable-twice), search (rules, end_small), search (rules, second-small), search rules), search (rules, countable))
+fasten-requires c = record {
+  wirable = (search (rules, wirable-twice), search (rules, end_small), search (rules, second-small), search rules);
+  countable = search (rules, countable);
+}
 
 pub returns : goal.returns
 returns c = search (rules, wire_way)

@@ -10,4 +10,7 @@ pub build-requires : goal.build-requires
 build-requires c = (search rules, search (rules, cells_in), search (rules, waits-fit))
 
 pub returns : goal.returns
-returns c = (search (rules, fire_way), search (rules, right_way))
+returns c = record {
+  state_after = search (rules, fire_way);
+  right = search (rules, right_way);
+}

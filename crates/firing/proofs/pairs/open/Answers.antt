@@ -20,4 +20,8 @@ pub overflow_sub-result : goal.overflow_sub-result
 overflow_sub-result c = search (rules, two_used)
 
 pub returns : goal.returns
-returns c = (search (rules, open_frame), (search (rules, open_state), search (rules, open_right)))
+returns c = record {
+  frame_after = search (rules, open_frame);
+  state_after = search (rules, open_state);
+  right = search (rules, open_right);
+}

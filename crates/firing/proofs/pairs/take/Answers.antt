@@ -10,4 +10,8 @@ pub take_cells-lowcell-requires : goal.take_cells-lowcell-requires
 take_cells-lowcell-requires c = search (rules, cells_takeable)
 
 pub returns : goal.returns
-returns c = (search (rules, both-frame), (search (rules, both-state), search (rules, both_right)))
+returns c = record {
+  frame_after = search (rules, both-frame);
+  state_after = search (rules, both-state);
+  right = search (rules, both_right);
+}

@@ -32,4 +32,8 @@ pub overflow_add-result : goal.overflow_add-result
 overflow_add-result c = search (rules, cell-past)
 
 pub returns : goal.returns
-returns c = (search (rules, past_way), (search (rules, cell-stored), search (rules, cell-entered)))
+returns c = record {
+  value = search (rules, past_way);
+  state_after = search (rules, cell-stored);
+  frame_after = search (rules, cell-entered);
+}

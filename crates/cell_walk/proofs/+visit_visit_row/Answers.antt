@@ -1,0 +1,42 @@
+-- `cell_walk::visit` and `cell_walk::visit_row` meet their contracts. The measure is the cells not yet met.
+use Prim.Native.Nat.{ℕ, ◌+◌, ◌-◌, ◌*◌, ◌<◌}
+use native.Mathlib.Omega.{arith}
+use borrow.Author.Rules.{rules}
+use Rattle.state.specs.Layout.{view}
+use Rattle.state.specs.Places.{words}
+use Rattle.sound.proofs.Places.{part_small}
+use Rattle.cell_walk.specs.Walks.{row, unmet}
+use Rattle.cell_walk.proofs.Steps.{Left, left_ready, left_more, left_stop, left_end}
+use Rattle.cell_walk.proofs.Cells.{visit_name, visit_barred, visit_into, ready-entered, entered-fits, entered-falls}
+use Rattle.cell_walk.proofs.Cells.{row_begin, row_cut, row-begins, row_gone, row-falls}
+use Rattle.cell_walk.proofs.+visit_visit_row.Goals as goal
+
+pub visit-returns-in-Name : goal.visit-returns-in-Name
+visit-returns-in-Name t c = search (rules, visit_name)
+
+pub visit-returns-then-symbol-eq0 : goal.visit-returns-then-symbol-eq0
+visit-returns-then-symbol-eq0 t c = search (rules, visit_barred)
+
+pub visit-visit_row-requires : goal.visit-visit_row-requires
+visit-visit_row-requires t c = (search (rules, entered-falls), (search (rules, ready-entered), search (rules, entered-fits)))
+
+pub visit-returns-in-Cell : goal.visit-returns-in-Cell
+visit-returns-in-Cell t c = search (rules, visit_into)
+
+pub visit_row-loop-i-init : goal.visit_row-loop-i-init
+visit_row-loop-i-init t c = search (rules, row_begin)
+
+pub visit_row-overflow_add-from : goal.visit_row-overflow_add-from
+visit_row-overflow_add-from t c = omega (arith, part_small c.args.p)
+
+pub visit_row-visit-requires : goal.visit_row-visit-requires
+visit_row-visit-requires t c = (search (rules, row-falls), search (rules, left_ready))
+
+pub visit_row-returns-then-not-visit : goal.visit_row-returns-then-not-visit
+visit_row-returns-then-not-visit t c = search (rules, left_stop, row-begins)
+
+pub visit_row-loop-i-preserved : goal.visit_row-loop-i-preserved
+visit_row-loop-i-preserved t c = search (rules, left_more, row_cut)
+
+pub visit_row-returns : goal.visit_row-returns
+visit_row-returns t c = search (rules, left_end, row_gone)

@@ -1,0 +1,24 @@
+-- `cell_walk::visit` and `cell_walk::visit_row` meet their contracts. The measure is the cells not yet met.
+use Prim.Native.Nat.{ℕ, ◌+◌, ◌-◌, ◌*◌, ◌<◌}
+use native.Mathlib.Omega.{arith}
+use borrow.Author.Rules.{rules}
+use Rattle.state.specs.Layout.{view}
+use Rattle.state.specs.Places.{words}
+use Rattle.sound.proofs.Places.{part_small}
+use Rattle.cell_walk.specs.Walks.{row, unmet}
+use Rattle.cell_walk.proofs.Steps.{Left, left_ready, left_more, left_stop, left_end}
+use Rattle.cell_walk.proofs.Cells.{visit_name, visit_barred, visit_into, ready-entered, entered-fits, entered-falls}
+use Rattle.cell_walk.proofs.Cells.{row_begin, row_cut, row-begins, row_gone, row-falls}
+use Rattle.cell_walk.proofs.+visit_visit_row.Given as goal
+
+abbrev pub decreases-visit : goal.decreases-visit
+decreases-visit l = 2 * unmet l.seen.now
+
+abbrev pub decreases-visit_row : goal.decreases-visit_row
+decreases-visit_row l = 2 * unmet l.seen.now + 1
+
+abbrev pub invariant-visit_row-loop-i : goal.invariant-visit_row-loop-i
+invariant-visit_row-loop-i l = Left l.table (view l.state) (row (words l.p (view l.state)) l.from l.n) l.initial.seen (row (words l.p (view l.state)) (l.from + l.i) (l.n - l.i)) l.seen
+
+abbrev pub decreases-visit_row-loop-i : goal.decreases-visit_row-loop-i
+decreases-visit_row-loop-i l = l.n - l.i

@@ -1,0 +1,18 @@
+-- `name_counts::times_in_cells` meets its contract.
+use Prim.Native.Nat.{◌-◌}
+use Rattle.parts.specs.Limits.{arity_max, cells_max}
+use Rattle.name_counts.proofs.Sums.{Summing, sum_start, sum_more, sum_end}
+use Rattle.sound.specs.Lent.{under}
+use Rattle.name_counts.specs.Totals.{inside}
+use Rattle.state.specs.Layout.{view}
+use borrow.Author.Rules.{rules}
+use Rattle.name_counts.proofs.times_in_cells.Goals as goal
+
+pub loop-c-init : goal.loop-c-init
+loop-c-init c = search (rules, sum_start)
+
+pub loop-c-preserved : goal.loop-c-preserved
+loop-c-preserved c = sum_more c.times_inside-found.result c.loop-c.invariant c.loop-c-test.true c.times_inside-found.ensures
+
+pub returns : goal.returns
+returns c = search (rules, sum_end)
