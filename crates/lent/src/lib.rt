@@ -1,5 +1,6 @@
 // The test of what a caller lends: a rule table and a state under it.
 #![tactic(auto)]
+
 ghost use Rattle.std.specs.Prelude.{◌≡◌, true, ◌↔◌};
 ghost use Rattle.lent.specs.Both.{BothSound};
 

@@ -1,5 +1,6 @@
 // The reader of net texts: it decides first and writes last, and what it fills is overwritten, not tested.
 #![tactic(auto)]
+
 mod rest; // rest.rt: the `eq` lines
 mod front; // front.rt: the header and the `face` line
 mod whole; // whole.rt: all lines, number 11, number 8

@@ -1,5 +1,6 @@
 // The reader of rule texts: one public call.
 #![tactic(auto)]
+
 ghost use Rattle.std.specs.Prelude.{◌≡◌};
 ghost use Rattle.rules.specs.Answer.{leaves, rules_read};
 

@@ -1,5 +1,6 @@
 // One `rule` line whose bytes, shape and spelling are judged: it is refused by 5, 7, 8, 9 or 10, or its rule is put into the table.
 #![tactic(auto)]
+
 ghost use Rattle.texts.specs.Books.{Book, Rule};
 ghost use Rattle.terms.specs.Agents.{agents_of};
 ghost use Rattle.ruling.specs.Judged.{Meant, Judged};

@@ -143,5 +143,5 @@ module _ (text : List ℕ) (ags : List Agent) (ts us : List Term) where
           }
         where
           not_so : (a b : Bool) → a ≡ not b → a ≡ true → b ≡ false
-          not_so a true p q = Rattle.texts.specs.Proofs.Tools.never (sym p ∙ q)
+          not_so a true p q = Rattle.texts.proofs.Beneath.Tools.never (sym p ∙ q)
           not_so a false p q = refl

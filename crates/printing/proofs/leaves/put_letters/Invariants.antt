@@ -1,0 +1,12 @@
+-- `printing::leaves::put_letters` meets its contract.
+use Prim.Native.Nat.{◌-◌}
+use Rattle.parts.specs.Limits.{identifier_max}
+use Rattle.printing.proofs.Stores.{Lettering, letters_begin, letters-stop, letters_more, letters_end}
+use borrow.Author.Rules.{rules}
+use Rattle.printing.proofs.leaves.put_letters.Given as goal
+
+abbrev pub invariant-loop-j : goal.invariant-loop-j
+invariant-loop-j l = Lettering l.table l.s l.at l.initial.out l.j l.p l.out
+
+abbrev pub decreases-loop-j : goal.decreases-loop-j
+decreases-loop-j l = identifier_max - l.j
