@@ -1,5 +1,6 @@
 // Reading the end: the answer of a state in which nothing waits.
 #![tactic(auto)]
+
 ghost use Rattle.std.specs.Prelude.{◌≡◌};
 ghost use Rattle.answer.specs.Called.{end_told, given, called};
 
