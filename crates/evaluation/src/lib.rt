@@ -1,5 +1,6 @@
 // The evaluator: a rule text and a net text in, the printed lines out.
 #![tactic(auto)]
+
 ghost use Rattle.std.specs.Prelude.{◌≡◌, ◌≤◌, length};
 ghost use Rattle.std.proofs.lemmas.List.Edits.{sets};
 ghost use Rattle.texts.specs.NetText.{read_net};

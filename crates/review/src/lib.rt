@@ -1,6 +1,7 @@
 // Each public call, made in one line with the record of the review for its promise: were the promise of a call any weaker, its
 // line here would not be proved.
 #![tactic(auto)]
+
 ghost use Rattle.review.specs.Promises.{RulesCall, NetCall, StepCall, RunCall, AnswerCall, EvaluateCall, TableTest, BothTest, EmptyState, EmptyTable};
 
 use answer::{EndAnswer, read_answer};

@@ -17,3 +17,6 @@ returns-in-Spent c = search (rules, turn_spent)
 
 pub returns-in-NoRoom : goal.returns-in-NoRoom
 returns-in-NoRoom c = search (rules, turn-full)
+
+pub overflow_sub-result : goal.overflow_sub-result
+overflow_sub-result c = search (rules, left_fits)

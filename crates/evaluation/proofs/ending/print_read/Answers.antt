@@ -1,0 +1,10 @@
+-- `evaluation::ending::print_read` meets its contract.
+use Rattle.evaluation.proofs.Ends.{part-fits, read_way}
+use borrow.Author.Rules.{rules}
+use Rattle.evaluation.proofs.ending.print_read.Goals as goal
+
+pub put_bytes-requires : goal.put_bytes-requires
+put_bytes-requires c = search (rules, part-fits)
+
+pub returns : goal.returns
+returns c = search (rules, read_way)
