@@ -105,7 +105,7 @@ read_by-size f nil S = refl
 read_by-size f (cons t ts) S = ap suc (read_by-size f ts (read_by f t S).after)
 
 read-size : (n : ℕ) (ts : Terms) (S : Reader) → size (read n ts S).shown ≡ size ts
-read-size ℕ.zero ts S = read_by-size _ ts S
+read-size ℕ.zero ts S = read_by-size (λ u R. record { shown = var 0; after = R }) ts S
 read-size (ℕ.suc n) ts S = read_by-size (read n) ts S
 
 pub lines-short : {w v : List ℕ} (h : BothSound w v) → (view v).waiting.used ≡ 0 → length (lines_of_net h) ≤ output_max
