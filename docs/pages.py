@@ -1,7 +1,7 @@
 #!/usr/bin/env python3
 """Lists the definitions that the statements of crates/review rest on, page by page; with --text it prints them.
 
-A statement is a public theorem on a page of crates/review/specs. A definition is reached if a statement names it, or a definition that
+A statement is a public theorem on a page of crates/review/proofs. A definition is reached if a statement names it, or a definition that
 is reached does; it is found by its page and its name, through the `use` lines. Proofs are not followed. Nor is a definition in HIDDEN:
 the theorems beside it determine it, and are statements themselves wherever it is reached. The script refuses a hidden name unless
 
@@ -19,7 +19,7 @@ import re
 import sys
 
 ROOT = os.path.join(os.path.dirname(os.path.abspath(__file__)), "..", "crates")
-# Every page of crates/review/specs that has statements, by the question that it answers.
+# Every page of crates/review/proofs that has statements, by the question that it answers.
 QUESTIONS = {
     "1 (header, refusals)": ["Demand1", "Demand1Texts", "Answered"],
     "2 (texts, step, answer)": ["Demand2", "Program"],
@@ -28,49 +28,49 @@ QUESTIONS = {
 # A definition that a reader need not look at, and the theorems that determine it.
 HIDDEN = {
     # what the calls promise, and so how their answers are come to
-    "review/Promises.RulesCall": ["review/Demand1Texts.rules-refused", "review/Demand2.rules-spelt"],
-    "review/Promises.NetCall": ["review/Demand1Texts.net-refused", "review/Demand1Texts.net-16", "review/Demand2.net-spelt"],
+    "review/Promises.RulesCall": ["review/proofs/Demand1Texts.rules-refused", "review/proofs/Demand2.rules-spelt"],
+    "review/Promises.NetCall": ["review/proofs/Demand1Texts.net-refused", "review/proofs/Demand1Texts.net_16", "review/proofs/Demand2.net-spelt"],
     "review/Promises.StepCall": [
-        "review/Demand1.step-16",
-        "review/Demand1.step-12",
-        "review/Demand1.step-13",
-        "review/Demand2.step-made",
+        "review/proofs/Demand1.step_16",
+        "review/proofs/Demand1.step_12",
+        "review/proofs/Demand1.step_13",
+        "review/proofs/Demand2.step-made",
     ],
-    "review/Promises.RunCall": ["review/Demand1.run-16", "review/Demand1.run-17", "review/Demand2.run-is"],
+    "review/Promises.RunCall": ["review/proofs/Demand1.run_16", "review/proofs/Demand1.run_17", "review/proofs/Demand2.run_is"],
     "review/Promises.AnswerCall": [
-        "review/Demand1.answer-16",
-        "review/Demand1.answer-14",
-        "review/Demand1.answer-15",
-        "review/Demand2.answer-read",
+        "review/proofs/Demand1.answer_16",
+        "review/proofs/Demand1.answer_14",
+        "review/proofs/Demand1.answer_15",
+        "review/proofs/Demand2.answer-read",
     ],
-    "review/Promises.EmptyState": ["review/Answered.empty-state-is"],
-    "review/Promises.EmptyTable": ["review/Answered.empty-table-is"],
+    "review/Promises.EmptyState": ["review/proofs/Answered.empty-state_is"],
+    "review/Promises.EmptyTable": ["review/proofs/Answered.empty-table_is"],
     "evaluation/Evaluated.evaluated": [
-        "review/Program.rules-refused-printed",
-        "review/Program.net-refused-printed",
-        "review/Program.run-on",
-        "review/Program.paused-printed",
-        "review/Program.noroom-printed",
-        "review/Program.answer-on",
-        "review/Program.end-printed",
+        "review/proofs/Program.rules-refused-printed",
+        "review/proofs/Program.net-refused-printed",
+        "review/proofs/Program.run_on",
+        "review/proofs/Program.paused-printed",
+        "review/proofs/Program.noroom-printed",
+        "review/proofs/Program.answer_on",
+        "review/proofs/Program.end_printed",
     ],
     # the table of a book, and its bytes
-    "texts/Coded.tableOf": ["review/Demand2.table-exact"],
-    "texts/Coded.machine": ["review/Demand2.table-exact"],
-    "sound/Lent.under": ["review/Demand2.table-under"],
-    "table/Layout.agentsIn": ["review/Demand2.table-agents"],
-    "table/Layout.tableBytes": ["review/Demand2.table-code"],
+    "texts/Coded.table_of": ["review/proofs/Demand2.table-exact"],
+    "texts/Coded.machine": ["review/proofs/Demand2.table-exact"],
+    "sound/Lent.under": ["review/proofs/Demand2.table-under"],
+    "table/Layout.agents_in": ["review/proofs/Demand2.table-agents"],
+    "table/Layout.table_bytes": ["review/proofs/Demand2.table-code"],
     # a net loaded
-    "texts/Coded.load": ["review/Demand2.load-exact"],
-    "model/Load.loaded": ["review/Demand2.load-exact"],
+    "texts/Coded.load": ["review/proofs/Demand2.load-exact"],
+    "model/Load.loaded": ["review/proofs/Demand2.load-exact"],
     # tests of a record
-    "texts/RuleText.fault7": ["texts/Main.number-7"],
-    "texts/RuleText.fault8": ["texts/Main.number-8"],
-    "texts/RuleText.fault10": ["texts/Main.number-10"],
-    "texts/NetText.netFault7": ["texts/Main.net-number-7"],
+    "texts/RuleText.fault7": ["texts/proofs/Main.number_7"],
+    "texts/RuleText.fault8": ["texts/proofs/Main.number_8"],
+    "texts/RuleText.fault10": ["texts/proofs/Main.number_10"],
+    "texts/NetText.net_fault7": ["texts/proofs/Main.net_number_7"],
 }
 # A proof off which statements read something, and the theorem that says that another proof gives the same.
-PROOFS = {"lent/Both.sound-state": ["model/Kept.one-meaning"]}
+PROOFS = {"lent/Both.sound-state": ["model/proofs/Kept.one_meaning"]}
 WORD = re.compile(r"[^\s(){}\[\];,|]+")
 WORDS_BEFORE = re.compile(r"\s*(?:(?:abbrev|unfoldable|pub|data|record|mutual) )*([^(){}=→]+?)(?: [({].*)? : ")
 
@@ -132,7 +132,7 @@ class Page:
         self.names = {}
         for d in self.definitions:
             for name in d.names:
-                for part in {name, *(name.split("_") if "_" in name else ())} - {""}:
+                for part in {name, *(name.split("◌") if "◌" in name else ())} - {""}:
                     self.names.setdefault(part, []).append(d)
 
     def take(self, module, names, alias):
@@ -142,7 +142,7 @@ class Page:
             old, _, new = name.strip().partition(" as ")
             inner, _, last = old.rpartition(".")
             target = f"{module}.{inner}" if inner else module
-            for part in {new or last, *(last.split("_") if "_" in last and not new else ())} - {""}:
+            for part in {new or last, *(last.split("◌") if "◌" in last and not new else ())} - {""}:
                 self.imports.setdefault(part, []).append((target, last))
 
     def put(self, block, modules):
@@ -180,21 +180,22 @@ class Page:
 
 
 def page_key(module):
-    """`Rattle·texts.specs.Proofs.Reader` and `Rattle·texts·specs.specs.Proofs.Reader` are the page texts/Proofs/Reader."""
-    found = re.match(r"Rattle·([^.·]+)(?:·specs)?\.specs\.(.+)$", module)
-    return found and f"{found.group(1)}/{found.group(2).replace('.', '/')}"
+    """`Rattle.texts.specs.Books` is the page texts/Books, and `Rattle.texts.proofs.Main` is texts/proofs/Main."""
+    found = re.match(r"Rattle\.([^.]+)\.(specs|proofs)\.(.+)$", module)
+    return found and f"{found.group(1)}/{'proofs/' if found.group(2) == 'proofs' else ''}{found.group(3).replace('.', '/')}"
 
 
 def read_pages():
     pages = {}
     for crate in sorted(os.listdir(ROOT)):
-        specs = os.path.join(ROOT, crate, "specs")
-        for folder, _, files in os.walk(specs):
-            for file in files:
-                if file.endswith(".antt"):
-                    path = os.path.join(folder, file)
-                    page = Page(pages, crate, os.path.relpath(path, specs)[:-5], path)
-                    pages[page.key] = page
+        for part, before in (("specs", ""), ("proofs", "proofs/")):
+            top = os.path.join(ROOT, crate, part)
+            for folder, _, files in os.walk(top):
+                for file in files:
+                    if file.endswith(".antt") and file not in ("Answers.antt", "Invariants.antt"):
+                        path = os.path.join(folder, file)
+                        page = Page(pages, crate, before + os.path.relpath(path, top)[:-5], path)
+                        pages[page.key] = page
     return pages
 
 
@@ -266,12 +267,13 @@ def main():
     asked = {n for names in QUESTIONS.values() for n in names}
     everything = set()
     for key, page in pages.items():
-        if key.startswith("review/") and key.count("/") == 1 and key[7:] not in asked:
+        name = key.removeprefix("review/").removeprefix("proofs/")
+        if key.startswith("review/") and "/" not in name and name not in asked:
             if any(d.is_theorem and d.is_public for d in page.definitions):
                 sys.exit(f"pages.py: the statements of {key} answer no question")
     for question, names in list(QUESTIONS.items()) + [("all", None)]:
         if names:
-            statements = [d for n in names for d in pages[f"review/{n}"].definitions if d.is_theorem and d.is_public]
+            statements = [d for n in names for d in pages[f"review/proofs/{n}"].definitions if d.is_theorem and d.is_public]
             shut(hidden, statements)
             found = {d for d in reached(statements, hidden) if not d.is_theorem and d not in hidden}
             everything |= found

@@ -1,15 +1,15 @@
 -- Answers of some ended nets, computed; and a name as it is printed.
-use Rattle.std.specs.Prelude.{◌≡◌, refl, List, [], ◌∷◌, map}
+use Rattle.std.specs.Prelude.{◌≡◌, refl, [], ◌∷◌, map}
 use Rattle.std.proofs.Math.Decide.{ℕ_discrete}
 use Rattle.std.proofs.Common.{arith}
 use Rattle.calculus.proofs.Beneath.Count.{δ_same}
-use Rattle.calculus.specs.Terms.{var, node, nil, cons, Term, ◌==◌, Conf, if_eq}
+use Rattle.calculus.specs.Terms.{var, nil, cons, ◌==◌, if_eq}
 use Rattle.texts.specs.Bytes.{bytes, decimal}
-use Rattle.answers.specs.Answer.{Answer, answer}
+use Rattle.answers.specs.Answer.{answer}
 use Rattle.answers.specs.Knots.{Hangs, here, more, Behind}
 use Rattle.answers.specs.Text.{numeral}
 use Rattle.answers.proofs.Beneath.Ties.{tied_head}
-use Rattle.answers.specs.Cases.{S, Z, behind_one, nets, answers}
+use Rattle.answers.specs.Cases.{Z, behind_one, nets, answers}
 
 pub the_answers : map answer nets ≡ answers
 unfolding if_eq ℕ_discrete

@@ -7,7 +7,7 @@ use Prim.Native.Nat.{ℕ, zero, suc, ◌+◌, ◌*◌, ◌≤◌, ◌<◌}
 use Rattle.calculus.proofs.Beneath.Ended.{All}
 use Rattle.parts.specs.Limits.{arity_max, names_max}
 use Rattle.parts.specs.Sides.{Side, name, cell, Pair, ◌:=◌, side}
-use Rattle.model.specs.State.{St, listed, Stack, bare, to, bond, used}
+use Rattle.model.specs.State.{St, listed, Stack, to, bond, used}
 use Rattle.model.specs.Table.{Table}
 use Rattle.model.specs.Sound.{Sound, mem_of, width, sides}
 use Rattle.model.specs.SoundTable.{SoundTable}

@@ -1,13 +1,7 @@
 -- Answers of some ended nets, computed; and a name as it is printed.
-use Rattle.std.specs.Prelude.{◌≡◌, refl, List, [], ◌∷◌, map}
-use Rattle.std.proofs.Math.Decide.{ℕ_discrete}
-use Rattle.std.proofs.Common.{arith}
-use Rattle.calculus.proofs.Beneath.Count.{δ_same}
-use Rattle.calculus.specs.Terms.{var, node, nil, cons, Term, ◌==◌, Conf, if_eq}
-use Rattle.texts.specs.Bytes.{bytes, decimal}
-use Rattle.answers.specs.Answer.{Answer, answer}
-use Rattle.answers.specs.Knots.{Hangs, here, more, Behind}
-use Rattle.answers.specs.Text.{numeral}
+use Rattle.std.specs.Prelude.{List, [], ◌∷◌}
+use Rattle.calculus.specs.Terms.{var, node, nil, cons, Term, ◌==◌, Conf}
+use Rattle.answers.specs.Answer.{Answer}
 
 -- Of an ended net: the symbols add 0, S 1 and Z 2, names by any numbers.
 abbrev pub S : Term → Term

@@ -1,9 +1,8 @@
 -- Demand 3 for the calculus: whichever equation is picked, the Interactions are the same and so is the end.
-use Rattle.std.specs.Prelude.{◌≡◌, List, ℕ, ◌≤◌}
-use Rattle.calculus.specs.Terms.{Conf, δ}
-use Rattle.calculus.specs.Calculus.{Valid, Book, Sound, Label, Com, Int, Step}
-use Rattle.calculus.specs.Nets.{◌≈◌}
-use Rattle.calculus.specs.Descent.{Steps, Normal, tally, Ends}
+use Rattle.std.specs.Prelude.{◌≡◌, List, ℕ}
+use Rattle.calculus.specs.Terms.{Conf}
+use Rattle.calculus.specs.Calculus.{Valid, Book, Sound, Label, Step}
+use Rattle.calculus.specs.Descent.{Steps, Normal}
 use Rattle.calculus.proofs.Beneath.Descent.{descent, at_most, at_end}
 use Rattle.calculus.proofs.Beneath.Order.{calculus_diamond}
 use Rattle.calculus.specs.Order.{is_interaction, is_use, steps, interactions, uses, Agreed}

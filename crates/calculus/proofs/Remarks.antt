@@ -1,8 +1,8 @@
 -- Remarks on the definitions, each proved: what a Communication leaves, when it does not apply, what nets that are one
 -- have in common, and which rules of a symbol with itself are refused.
-use Rattle.std.specs.Prelude.{◌≡◌, refl, [], ◌∷◌, ℕ, suc, length}
+use Rattle.std.specs.Prelude.{◌≡◌, refl, [], ℕ, suc, length}
 use Rattle.std.proofs.Common.{sym, ◌∙◌, inl, inr, arith}
-use Rattle.calculus.specs.Terms.{var, Terms, ◌==◌, Conf, names, count, none, keep, Sides, ◌∼◌}
+use Rattle.calculus.specs.Terms.{var, Terms, Conf, names, count, none, keep, Sides, ◌∼◌}
 use Rattle.calculus.specs.Calculus.{Valid, Proper, Book, Communication, Com, Step, communication}
 use Rattle.calculus.specs.Nets.{◌≈◌}
 use Rattle.calculus.specs.Descent.{Normal}

@@ -1,9 +1,9 @@
 -- Demand 3 for the calculus: whichever equation is picked, the Interactions are the same and so is the end.
 use Rattle.std.specs.Prelude.{◌≡◌, List, ℕ, ◌≤◌}
 use Rattle.calculus.specs.Terms.{Conf, δ}
-use Rattle.calculus.specs.Calculus.{Valid, Book, Sound, Label, Com, Int, Step}
+use Rattle.calculus.specs.Calculus.{Book, Label, Com, Int, Step}
 use Rattle.calculus.specs.Nets.{◌≈◌}
-use Rattle.calculus.specs.Descent.{Steps, Normal, tally, Ends}
+use Rattle.calculus.specs.Descent.{Normal, tally, Ends}
 
 -- How many steps, how many Interactions, and how many of these by rule number i: each is a tally of the labels.
 abbrev pub is_interaction : Label → ℕ

@@ -12,7 +12,7 @@ use table::Rule;
 use table::reading::has_rule;
 use turning::two_sided;
 
-// A symbol's rule with itself is one_sided.
+// A symbol's rule with itself is one-sided.
 fn one_sided(rule: Rule) -> bool
     requires { rule.equations ≤ rule_equations_max }
     ensures { (ags : List Books.Agent) → result ≡ (eqb rule.left rule.right && not (is_two_sided (stands ags rule))) }

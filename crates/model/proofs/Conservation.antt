@@ -1,5 +1,5 @@
 -- Theorem 4: how many cells are in use after any steps.
-use Rattle.std.specs.Prelude.{◌≡◌, ℕ, ◌+◌, ◌*◌, length}
+use Rattle.std.specs.Prelude.{◌≡◌, ◌+◌, ◌*◌, length}
 use Rattle.std.proofs.Common.{◌∙◌, ap}
 use Rattle.calculus.specs.Terms.{Conf}
 use Rattle.model.specs.State.{St, used}

@@ -6,7 +6,7 @@ use Rattle.calculus.specs.Calculus.{Label}
 use Rattle.parts.specs.Limits.{loops_max}
 use Rattle.parts.specs.Sides.{name, ◌:=◌, Pair}
 use Rattle.model.specs.State.{St}
-use Rattle.model.specs.Table.{Table, Found, none, straight, turned}
+use Rattle.model.specs.Table.{Table, Found, straight, turned}
 use Rattle.model.specs.Step.{moved, place, taken_out, picked, rule_at}
 use Rattle.model.specs.Stepped.{stepped}
 use Rattle.model.specs.Sound.{Sound, meaning}

@@ -1,5 +1,5 @@
 -- When the machine's table is sound. A table is sound in document 01's own words (crates/texts/specs/Good.antt)
--- exactly if the machine's is and its symbols are well spelt (`table-machine`, crates/texts/specs/Main.antt).
+-- exactly if the machine's is and its symbols are well spelt (`table-machine`, crates/texts/proofs/Main.antt).
 use Rattle.std.specs.Prelude.{◌≡◌, [], ℕ, ◌≤◌, ◌<◌, length, get_or}
 use Rattle.calculus.specs.Calculus.{Rule, Proper, SamePair}
 use Rattle.calculus.specs.Rules.{Plain}

@@ -1,5 +1,6 @@
 // The parts that every other crate speaks of: the sizes, typed numbers, sides, equations, and the codes of sides.
 #![tactic(auto)]
+
 ghost use Rattle.std.specs.Prelude.{◌≡◌, ℕ, ◌+◌, ◌*◌, ◌<◌};
 ghost use Rattle.parts.specs.Limits.{text_max, identifier_max, symbols_max, arity_max, rules_max, rule_equations_max, rule_cells_max, rule_names_max, face_max, net_equations_max, net_cells_max, net_names_max, level_max, cells_max, names_max, waiting_max, stuck_max, loops_max, budget_max, agent_size, node_size, rule_size, table_size};
 ghost use Rattle.parts.specs.Sides.{code, side};

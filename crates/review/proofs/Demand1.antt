@@ -13,7 +13,7 @@
 --    7  argument count differs from arity, or ..            seven
 --    8  a left field ..; a name the wrong number of times   eight, loose_name
 --    9  the pair already has a rule                         nine
---   10  a symbol's rule with itself is one_sided            ten
+--   10  a symbol's rule with itself is one-sided            ten
 --   11  a header count differs from the records found       miscounted
 --   12  pick at or past the number waiting                  step_12
 --   13  no room                                             step_13

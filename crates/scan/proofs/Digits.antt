@@ -1,9 +1,9 @@
 -- Numbers: what the loop over at most four digits has shown, and one law for each way out of the number reader.
 use Prim.Native.Nat.{ℕ, zero, suc, ◌+◌, ◌*◌, ◌-◌, ◌≤◌, ◌<◌}
-use mathlib.Core.Path.{◌≡◌, refl, sym, ap, ◌∙◌}
-use mathlib.Core.Bool.{Bool, true, false, cond, not, ◌&&◌, ◌||◌}
+use mathlib.Core.Path.{◌≡◌, refl, sym, ◌∙◌}
+use mathlib.Core.Bool.{Bool, true, false, not, ◌&&◌, ◌||◌}
 use mathlib.Core.List.{List, [], ◌∷◌}
-use mathlib.Core.Option.{Option, none, some}
+use mathlib.Core.Option.{none, some}
 use native.Mathlib.Numerals.{add-one}
 use native.Mathlib.Omega.{arith}
 use lib.ListN.{length, get_or, drop, drop_of_length-le}
@@ -11,7 +11,7 @@ use lib.Seq.{drop-cons}
 use lib.Dec.{eqb, leb}
 use borrow.Author.Tests.{eq-eqb, ne_eqb, le-leb, lt-leb, leb-true}
 use Rattle.texts.specs.Bytes.{all, digit, is_number, value, number_of}
-use Rattle.texts.proofs.Beneath.Tools.{both, pair}
+use Rattle.texts.proofs.Beneath.Tools.{both}
 use Rattle.scan.specs.Numbers.{Digits, digits_end}
 use Rattle.scan.specs.Laws.Placing.{place_le, place_all}
 

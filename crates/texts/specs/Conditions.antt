@@ -27,7 +27,7 @@ pub record WellNamed (ags : List Agent) (r : Rule) : Type 0 where
   pub once : (w : Word) → In w (left_args r) → times w (names_of ags (rights r)) ≡ 1
   pub twice : (w : Word) → In w (names_of ags (rights r)) → ¬ In w (left_args r) → times w (names_of ags (rights r)) ≡ 2
 
--- 10: "a symbol's rule with itself is one_sided". "A rule of a symbol with itself must read the same from both sides".
+-- 10: "a symbol's rule with itself is one-sided". "A rule of a symbol with itself must read the same from both sides".
 -- x and y stand at the same place of two lists.
 pub data Across : List Word → List Word → Word → Word → Type 0 where
   here : {x y : Word} {xs ys : List Word} → Across (x ∷ xs) (y ∷ ys) x y

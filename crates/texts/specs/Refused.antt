@@ -72,7 +72,7 @@ pub data RuleWrong (s : RulesSoFar) (l : Line) : ℕ → Type 0 where
   eight : {b : Book} {r : Record} → Stands s l.bytes b r → fault8 b r ≡ true → RuleWrong s l 8
   -- 9: "the pair already has a rule"
   nine : {b : Book} {r : Record} → Stands s l.bytes b r → fault9 b r ≡ true → RuleWrong s l 9
-  -- 10: "a symbol's rule with itself is one_sided"
+  -- 10: "a symbol's rule with itself is one-sided"
   ten : {b : Book} {r : Record} → Stands s l.bytes b r → fault10 b r ≡ true → RuleWrong s l 10
 
 pub data RulesRefused (text : List ℕ) : ℕ → ℕ → Type 0 where

@@ -144,7 +144,7 @@ unfoldable pub fault9 : Book → Record → Bool
 fault9 b (is_agent a) = false
 fault9 b (is_rule r) = any (same_pair r) b.rules
 
--- 10: "a symbol's rule with itself is one_sided". Two-sided: "its right side has no agents and no new names, and its
+-- 10: "a symbol's rule with itself is one-sided". Two-sided: "its right side has no agents and no new names, and its
 -- set of unordered pairs is unchanged when the two left argument lists change places".
 pub record Wire : Type 0 where
   pub one : Word

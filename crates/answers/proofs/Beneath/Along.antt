@@ -1,7 +1,7 @@
 -- A reader with no equations beside one that has them: which names they number alike.
 use Rattle.std.specs.Prelude.{◌≡◌, List, [], ◌∷◌, ℕ, suc, ◌+◌, ◌≤◌, ◌<◌}
 use Rattle.std.proofs.Common.{ap, ap₂}
-use Rattle.calculus.specs.Terms.{Sort, one, many, Tree, var, node, nil, cons, names, count, if_eq, touches}
+use Rattle.calculus.specs.Terms.{Sort, Tree, var, node, nil, cons, count, if_eq, touches}
 use Rattle.answers.specs.Answer.{pick, Numbered, unknown, known, find, Reader, named, read}
 use Rattle.answers.proofs.Beneath.Drain.{Once}
 use Rattle.answers.proofs.Beneath.Wired.{wired}

@@ -1,5 +1,5 @@
 -- Collects in any order come to one interface, up to names: two Collects from one valid net are one or meet.
-use Rattle.std.specs.Prelude.{◌≡◌, refl, List, [], ◌∷◌, map, ◌⊎◌, ℕ, ◌+◌, ◌<◌, ◌≤◌}
+use Rattle.std.specs.Prelude.{◌≡◌, refl, List, [], ◌∷◌, map, ◌⊎◌, ℕ, ◌+◌, ◌<◌}
 use Rattle.std.proofs.Common.{sym, ◌∙◌, ap, ap₂, inl, inr, arith}
 use Rattle.std.proofs.Math.Decide.{ℕ_discrete}
 use Rattle.calculus.specs.Terms.{Sort, Tree, var, Term, Eqn, ◌==◌, Conf, names, eqs_names, δ, count, occurs, step, Sides, ◌∼◌, sub, sub_eqn, ren, if_eq, ◌⟦◌/◌⟧}

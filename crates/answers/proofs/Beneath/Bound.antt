@@ -10,7 +10,7 @@ use Rattle.parts.specs.Sides.{Side, name, cell, Pair, ◌:=◌}
 use Rattle.parts.specs.Codes.{code-side}
 use Rattle.parts.specs.Limits.{names_max}
 use Rattle.parts.specs.Sides as Wd
-use Rattle.model.specs.Reading.{circles, Reads, by_name, by_cell, pairs, bonds}
+use Rattle.model.specs.Reading.{circles, Reads, by_name, by_cell, bonds}
 use Rattle.model.specs.Table.{Cell, Entry, Table}
 use Rattle.model.proofs.Beneath.Parts.{PairSides_equivalence, Part, part}
 use Rattle.model.specs.State.{St, unpack, bare, to, bond, bound, listed}

@@ -2,7 +2,7 @@
 use Rattle.std.specs.Prelude.{◌≡◌, refl, List, [], ◌∷◌, ◌++◌, ◌⊎◌, ℕ, ◌+◌, ◌≤◌, ◌<◌, length}
 use Rattle.std.proofs.Common.{sym, ◌∙◌, ap, subst, inl, inr, arith}
 use Rattle.std.proofs.Math.Decide.{ℕ_discrete, dec_lt}
-use Rattle.calculus.specs.Terms.{keep, step, var, node, Term, Terms, Eqn, ◌==◌, Conf, Sides, ◌∼◌, names, touch, touches}
+use Rattle.calculus.specs.Terms.{step, var, node, Term, Terms, Eqn, ◌==◌, Conf, ◌∼◌, names, touch, touches}
 use Rattle.calculus.specs.Terms.{eqs_names, occurs, δ, count}
 use Rattle.calculus.specs.Calculus.{Valid, Closed}
 use Rattle.calculus.proofs.Beneath.Perm.{perm_append_left, perm_shift}

@@ -9,7 +9,7 @@ use Rattle.calculus.proofs.Beneath.Perm.{perm_length}
 use Rattle.calculus.proofs.Beneath.Count.{δ_same, if_no}
 use Rattle.calculus.proofs.Beneath.Ended.{touches-∼}
 use Rattle.answers.specs.Answer.{Pick, alone, beside, pick, Numbered, Found, unknown, known, find, Reader}
-use Rattle.answers.specs.Answer.{Reading, named, then, read_by, read, stuck, sides, tied_agents, start}
+use Rattle.answers.specs.Answer.{Reading, named, read_by, read, stuck, sides, tied_agents, start}
 use Rattle.answers.specs.Answer.{face_read, pairs_read, answer}
 use Rattle.answers.proofs.Beneath.Order.{PickIs, pick_is, rest-once}
 use Rattle.answers.proofs.Beneath.Counts.{stuck-∼, tied_agents-∼}

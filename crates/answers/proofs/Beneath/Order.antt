@@ -8,7 +8,7 @@ use Rattle.calculus.proofs.Beneath.Sub.{Sides_equivalence, name_of}
 use Rattle.calculus.proofs.Beneath.Count.{δ-cases, if_yes, if_no}
 use Rattle.calculus.proofs.Beneath.Ended.{touches-∼}
 use Rattle.answers.specs.Answer.{Other, none, some, if_name, other, Pick, alone, beside, picked, pick, Found}
-use Rattle.answers.specs.Answer.{unknown, known, find, Reader, Reading, named, read_by, read, sides}
+use Rattle.answers.specs.Answer.{unknown, known, find, Reader, Reading, named, read_by, read}
 
 -- A term is a given name, or it is not.
 pub data Is (x : ℕ) (t : Term) : Type 0 where

@@ -2,7 +2,7 @@
 use Rattle.std.specs.Prelude.{◌≡◌, refl, List, [], ◌∷◌, ◌++◌, ◌⊎◌, ℕ, zero, suc, ◌+◌, ◌≤◌, ◌<◌, length}
 use Rattle.std.proofs.Common.{sym, ◌∙◌, ap, subst, append_assoc, inl, inr, arith}
 use Rattle.std.proofs.Math.Decide.{ℕ_discrete}
-use Rattle.calculus.specs.Terms.{none, Sort, one, many, var, node, nil, cons, Term, Terms, Eqn, ◌==◌, Conf, ◌∼◌, touch}
+use Rattle.calculus.specs.Terms.{Sort, one, var, node, nil, cons, Term, Terms, Eqn, ◌==◌, Conf, ◌∼◌, touch}
 use Rattle.calculus.specs.Terms.{names, eqs_names, δ, count}
 use Rattle.calculus.proofs.Beneath.Count.{δ_same, δ_other, δ-cases, sum-append, if_yes, if_no}
 use Rattle.calculus.proofs.Beneath.Perm.{perm_length}
@@ -14,7 +14,7 @@ use Rattle.model.specs.State.{Bond, free, bare, to}
 use Rattle.answers.specs.Printer.{face_printed, Printer, Printed, name_printed, side_printed, before}
 use Rattle.answers.specs.Printer.{sides_printed, over, cell_printed}
 use Rattle.answers.specs.Answer.{net_agents, Other, Pick, alone, beside, picked, pick, Numbered, Found, unknown}
-use Rattle.answers.specs.Answer.{known, find, Reader, Reading, named, agent, then, read, agents, tied_agents}
+use Rattle.answers.specs.Answer.{known, find, Reader, Reading, named, read, agents, tied_agents}
 use Rattle.answers.specs.Answer.{stuck, sides, start, face_read, answer}
 use Rattle.answers.proofs.Beneath.Order.{PickAlike, PickIs, pick-∼, pick_is, rest-once, Touched, touching, apart}
 use Rattle.answers.proofs.Beneath.Order.{touched}

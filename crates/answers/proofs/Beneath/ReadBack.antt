@@ -16,7 +16,7 @@ use Rattle.model.specs.Sound.{Sound, mem_of, meaning, sides}
 use Rattle.model.specs.SoundTable.{SoundTable}
 use Rattle.model.proofs.Beneath.Ranges.{LiveSide, face-live, stuck-live}
 use Rattle.texts.specs.Bytes.{Word, all, letter, digit, word_byte, is_number, number_of, value, decimal, In}
-use Rattle.texts.specs.Terms.{identifier, symbol, spell, worded, wordeds}
+use Rattle.texts.specs.Terms.{identifier, spell, worded, wordeds}
 use Rattle.texts.specs.Books.{Agent}
 use Rattle.texts.specs.Conditions.{SpeltAgents}
 use Rattle.texts.proofs.Beneath.Tools.{never, both, pair, all_mono}

@@ -2,7 +2,7 @@
 use Rattle.std.specs.Prelude.{◌≡◌, refl, List, ◌∷◌, ℕ, ◌≤◌, ◌<◌, length}
 use Rattle.std.proofs.Common.{sym, ◌∙◌, ap, ap₂, subst, arith}
 use Rattle.std.proofs.Math.Decide.{dec_lt}
-use Rattle.calculus.specs.Terms.{step, one, var, Term, Terms, Eqn, ◌==◌, Conf, ◌∼◌, touches}
+use Rattle.calculus.specs.Terms.{step, var, Term, Terms, Eqn, ◌==◌, Conf, ◌∼◌, touches}
 use Rattle.calculus.proofs.Beneath.Perm.{perm_refl, perm_cons, perm_length}
 use Rattle.calculus.proofs.Beneath.Sub.{Sides_equivalence}
 use Rattle.calculus.specs.Nets.{◌≈◌}
@@ -10,7 +10,7 @@ use Rattle.calculus.proofs.Beneath.Rename.{rename}
 use Rattle.calculus.specs.Descent.{Normal}
 use Rattle.calculus.specs.Calculus.{Book, Step, communication}
 use Rattle.calculus.proofs.Beneath.Ended.{touches-∼}
-use Rattle.answers.specs.Answer.{Pick, alone, beside, pick, read, stuck, sides, loops, agents}
+use Rattle.answers.specs.Answer.{Pick, alone, beside, pick, read, stuck, sides, loops}
 use Rattle.answers.specs.Same.{Same}
 use Rattle.answers.specs.Answer.{tied_agents, start, face_read, pairs_read, answer}
 use Rattle.answers.proofs.Beneath.Names.{eqs_to, answer-rename, stuck-rename}

@@ -1,5 +1,5 @@
 -- A place inside an agent of a stuck pair: the equation that it is in.
-use Rattle.std.specs.Prelude.{◌≡◌, refl, List, [], ◌∷◌, ◌++◌, ◌⊎◌, ℕ, suc, ◌*◌, ◌≤◌}
+use Rattle.std.specs.Prelude.{◌≡◌, refl, List, [], ◌∷◌, ◌++◌, ◌⊎◌, ℕ, ◌*◌, ◌≤◌}
 use Rattle.std.proofs.Common.{sym, ◌∙◌, ap, append_assoc, inl, inr, arith}
 use Rattle.calculus.specs.Terms.{Sort, one, many, Tree, node, nil, cons, Term, Terms, Eqn, ◌==◌, names, δ, count}
 use Rattle.calculus.specs.Terms.{Sides, keep, step, ◌∼◌}

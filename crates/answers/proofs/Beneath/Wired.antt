@@ -4,8 +4,7 @@ use Rattle.std.proofs.Common.{◌∙◌, arith}
 use Rattle.calculus.specs.Terms.{none, keep, swap, step, var, node, Term, Eqn, ◌==◌, Sides, ◌∼◌, names, eqs_names, δ}
 use Rattle.calculus.specs.Terms.{count}
 use Rattle.calculus.proofs.Beneath.Count.{sum-append}
-use Rattle.parts.specs.Sides.{name}
-use Rattle.answers.specs.Answer.{agents, stuck_pair, stuck, sides}
+use Rattle.answers.specs.Answer.{stuck_pair, stuck, sides}
 
 -- How often a name occurs in the ties and joins of some equations; and how often within their agents.
 abbrev pub wire : ℕ → Term → Term → ℕ

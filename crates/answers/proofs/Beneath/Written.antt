@@ -19,7 +19,7 @@ use Rattle.answers.specs.Answer.{Numbered, Found, unknown, known, find, agents}
 use Rattle.answers.specs.Printer.{Printer, Printed, name_printed, side_printed, sides_printed, cell_printed}
 use Rattle.answers.specs.Printer.{state_bonds}
 use Rattle.answers.specs.Text.{spelling, numeral, text}
-use Rattle.answers.specs.Printing.{Pen, pen, Written, written, numbered, numbered_both, close, name_by, side_by}
+use Rattle.answers.specs.Printing.{Pen, pen, Written, numbered, numbered_both, close, name_by, side_by}
 use Rattle.answers.specs.Printing.{sides_by, cell_met, cell_by}
 use Rattle.answers.proofs.Beneath.Lines.{parted, closed, spell-name, spell-agent}
 

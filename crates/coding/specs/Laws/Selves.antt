@@ -67,7 +67,7 @@ module _ (b : Book) (r : Books.Rule) (s : SoundRule b.agents r) (few : Few r) wh
           first_arity ags r s ∙ (ap (arity_at ags) e ∙ sym (second-arity ags r s)) in
           and_self turns (within us vs) (within vs us) (codes_back ags r s no_cells no_new few even) (into_back ags r s no_cells no_new few even)
 
-  -- Number 10 is given exactly where the coded rule is of one symbol and not two_sided.
+  -- Number 10 is given exactly where the coded rule is of one symbol and not two-sided.
   pub self-fault : (eqb (template ags r).left (template ags r).right && not (is_two_sided (template ags r))) ≡ fault10 b (is_rule r)
   unfolding fault10
   self-fault = go (eqb (template ags r).left (template ags r).right) refl

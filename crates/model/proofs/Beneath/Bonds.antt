@@ -1,5 +1,5 @@
 -- The ties and joins that the words of the names say, as equations of sides.
-use Rattle.std.specs.Prelude.{◌≡◌, List, [], ◌∷◌, ◌++◌, ℕ, zero, suc, ◌+◌, ◌<◌, length, get_or, set}
+use Rattle.std.specs.Prelude.{◌≡◌, List, [], ◌∷◌, ◌++◌, ℕ, suc, ◌+◌, ◌<◌, length, get_or, set}
 use Rattle.std.proofs.Common.{sym, ◌∙◌, ap, subst, append-nil, append_assoc, arith, length-set, get_or-set_same, get_or-set_other}
 use Rattle.std.proofs.Math.Decide.{ℕ_discrete, dec_lt}
 use Rattle.calculus.proofs.Beneath.Perm.{perm_refl, perm_sym, perm_append_left, perm_append_right, perm_exchange}
@@ -11,7 +11,7 @@ use Rattle.model.specs.State.{bound}
 use Rattle.model.specs.Follow.{drop_bond}
 use Rattle.model.specs.Reading.{bonds, link, bond_at}
 use Rattle.model.specs.Sound.{Mutual}
-use Rattle.model.proofs.Beneath.Parts.{PairSides, PairSides_equivalence, turn}
+use Rattle.model.proofs.Beneath.Parts.{PairSides, PairSides_equivalence}
 
 -- The words of the names where two are joined: each tells of the other.
 abbrev pub joined : ℕ → ℕ → List ℕ → List ℕ

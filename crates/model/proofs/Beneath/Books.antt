@@ -1,5 +1,5 @@
 -- A sound table gives a sound book of rules: each entry reads as one rule only.
-use Rattle.std.specs.Prelude.{◌≡◌, refl, List, [], ◌∷◌, ℕ}
+use Rattle.std.specs.Prelude.{◌≡◌, refl, List, ◌∷◌, ℕ}
 use Rattle.std.proofs.Common.{sym, ◌∙◌, ap, ap₂, subst}
 use Rattle.calculus.specs.Calculus.{Rule, Proper, SamePair}
 use Rattle.calculus.proofs.Beneath.Count.{first_term, rest_terms}
@@ -7,7 +7,7 @@ use Rattle.calculus.specs.Terms.{Eqn, ◌==◌}
 use Rattle.parts.specs.Sides.{Pair}
 use Rattle.model.specs.Table.{Cell, Entry, Table}
 use Rattle.model.specs.Reading.{ReadsAll, no_pairs, pairs}
-use Rattle.model.specs.Sound.{Means, book, Sound}
+use Rattle.model.specs.Sound.{Means, book}
 use Rattle.model.specs.SoundTable.{SoundTable}
 use Rattle.model.proofs.Beneath.Cells.{one_outcome}
 use Rattle.calculus.specs.Calculus as C

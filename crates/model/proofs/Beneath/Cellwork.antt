@@ -1,5 +1,5 @@
 -- Two cells freed and zeroed, and others written to places that are then free.
-use Rattle.std.specs.Prelude.{◌≡◌, List, [], map, ◌⊎◌, ℕ, zero, suc, ◌+◌, ◌*◌, ◌≤◌, ◌<◌, pred, length, get_or, take, drop, set}
+use Rattle.std.specs.Prelude.{◌≡◌, List, map, ◌⊎◌, ℕ, suc, ◌+◌, ◌*◌, ◌≤◌, ◌<◌, pred, length, get_or, take, drop, set}
 use Rattle.std.proofs.Common.{sym, ◌∙◌, ap, inl, inr, arith, length-set, length-drop, get_or-set_same, get_or-set_other, get_or-drop}
 use Rattle.std.proofs.Math.Decide.{ℕ_discrete, dec_lt}
 use Rattle.std.proofs.lemmas.List.{length-map}

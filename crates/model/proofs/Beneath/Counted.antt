@@ -1,5 +1,5 @@
 -- How often a name occurs in what is read, counted over the whole state.
-use Rattle.std.specs.Prelude.{◌≡◌, refl, List, [], ◌∷◌, ◌++◌, map, ℕ, zero, suc, ◌+◌, ◌*◌, ◌≤◌, ◌<◌, drop, set, length, get_or, take}
+use Rattle.std.specs.Prelude.{◌≡◌, refl, List, [], ◌∷◌, ◌++◌, map, ℕ, ◌+◌, ◌*◌, ◌≤◌, ◌<◌, drop, set, length, get_or, take}
 use Rattle.std.proofs.Common.{sym, ◌∙◌, ap, arith, get_or-set_same, get_or-set_other}
 use Rattle.std.proofs.Math.ListN.{get_or-eq_default}
 use Rattle.calculus.proofs.Beneath.Count.{δ_same, δ_other, sum-append}
@@ -16,7 +16,7 @@ use Rattle.model.specs.Test.{sides_of, is_name, times, occurrences}
 use Rattle.model.specs.Walk.{below}
 use Rattle.model.proofs.Beneath.Bonds.{mutual_drop, ◌≃◌, bonds-drop}
 use Rattle.model.proofs.Beneath.Ended.{unbound, touched}
-use Rattle.model.proofs.Beneath.Parts.{turn, same, PairSides}
+use Rattle.model.proofs.Beneath.Parts.{PairSides}
 use Rattle.model.proofs.Beneath.Pool.{in_range}
 use Rattle.model.proofs.Beneath.Search.{flat-names, flat}
 use Rattle.model.proofs.Beneath.Sums.{below-zero, below_ext, below_one, below_plus}

@@ -1,5 +1,5 @@
 -- Where nothing waits, the configuration of a sound state is at an end of the calculus.
-use Rattle.std.specs.Prelude.{◌≡◌, refl, List, [], ◌∷◌, ◌++◌, ◌⊎◌, ℕ, zero, suc, ◌+◌, ◌≤◌, ◌<◌, min, length, get_or, set}
+use Rattle.std.specs.Prelude.{◌≡◌, refl, List, [], ◌∷◌, ◌++◌, ◌⊎◌, ℕ, suc, ◌+◌, ◌≤◌, ◌<◌, min, length, get_or, set}
 use Rattle.std.proofs.Common.{sym, ◌∙◌, ap, ap₂, subst, inl, inr, arith, get_or-set_same, get_or-set_other}
 use Rattle.std.proofs.Math.Decide.{dec_lt}
 use Rattle.std.proofs.Math.ListN.{get_or-eq_default}
@@ -21,7 +21,7 @@ use Rattle.model.specs.Sound.{Mutual, book, Sound, AllHeld, mem_of, meaning, poo
 use Rattle.model.specs.SoundTable.{SoundTable}
 use Rattle.model.specs.Test.{is_name}
 use Rattle.model.proofs.Beneath.Bonds.{◌≃◌, ≃_refl, bonds-drop, mutual_drop}
-use Rattle.model.proofs.Beneath.Parts.{PairSides, Part, part, turn, same}
+use Rattle.model.proofs.Beneath.Parts.{PairSides, Part, part}
 use Rattle.model.proofs.Beneath.Pool.{in_range}
 use Rattle.model.proofs.Beneath.Stepped.{Finds, finds}
 

@@ -13,7 +13,6 @@ use Rattle.model.specs.Step.{inst_cell, inst_pair}
 use Rattle.model.specs.Reading.{Reads, by_name, by_cell, ReadsAll, no_pairs, pairs, Whole}
 use Rattle.model.proofs.Beneath.Cells.{◌+++◌, frame, reads-append, Outcome, one_outcome, instantiate}
 use Rattle.model.proofs.Beneath.Cells.{count-map-append}
-use Rattle.model.proofs.Beneath.Parts.{turn, same}
 use Rattle.model.proofs.Beneath.Picks.{frame_all, append_all, Picked, pick, Each, each}
 use Rattle.std.proofs.lemmas.List.{map-append}
 

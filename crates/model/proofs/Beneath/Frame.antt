@@ -1,5 +1,5 @@
 -- A sound state in the two parts that proofs handle: what a step on names leaves alone, and what is read.
-use Rattle.std.specs.Prelude.{◌≡◌, refl, List, [], ℕ, suc, ◌*◌, ◌≤◌, length, get_or}
+use Rattle.std.specs.Prelude.{◌≡◌, refl, List, ℕ, suc, ◌*◌, ◌≤◌, length, get_or}
 use Rattle.std.proofs.Common.{◌∙◌, arith}
 use Rattle.parts.specs.Limits.{waiting_max, loops_max}
 use Rattle.parts.specs.Sides.{Pair}

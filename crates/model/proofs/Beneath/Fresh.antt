@@ -1,8 +1,8 @@
 -- What new bare names and new cells leave as it was.
-use Rattle.std.specs.Prelude.{◌≡◌, refl, List, [], ◌∷◌, ◌++◌, map, ℕ, zero, suc, ◌+◌, ◌*◌, ◌≤◌, ◌<◌, min, pred, length, get_or, take, drop, set}
+use Rattle.std.specs.Prelude.{◌≡◌, refl, List, [], ◌∷◌, ◌++◌, map, ℕ, suc, ◌+◌, ◌*◌, ◌≤◌, ◌<◌, min, pred, length, get_or, take, drop, set}
 use Rattle.std.proofs.Common.{sym, ◌∙◌, ap, ap₂, arith, length-drop}
 use Rattle.calculus.proofs.Beneath.Count.{δ_same, sum-append}
-use Rattle.calculus.specs.Terms.{δ, count, none, Terms, Eqn}
+use Rattle.calculus.specs.Terms.{δ, count, Terms, Eqn}
 use Rattle.parts.specs.Sides.{Side, name, cell, Pair, ◌:=◌, side}
 use Rattle.model.specs.State.{from}
 use Rattle.model.specs.Table.{Cell, Entry, find}

@@ -1,10 +1,10 @@
 -- Why `lowest` gives the lowest free numbers.
-use Rattle.std.specs.Prelude.{◌≡◌, List, [], ◌∷◌, ℕ, zero, suc, ◌+◌, ◌≤◌, ◌<◌, length, get_or}
+use Rattle.std.specs.Prelude.{◌≡◌, List, [], ◌∷◌, ℕ, suc, ◌+◌, ◌≤◌, ◌<◌, length, get_or}
 use Rattle.std.proofs.Common.{ap, subst, arith}
 use Rattle.std.proofs.Math.Decide.{dec_lt}
 use Rattle.calculus.proofs.Beneath.Count.{δ_same}
 use Rattle.calculus.specs.Terms.{δ, count}
-use Rattle.model.specs.State.{used, lowest}
+use Rattle.model.specs.State.{lowest}
 use Rattle.model.proofs.Beneath.Store.{lowest-free, count-get_or}
 
 pub all_free : (n : ℕ) (l : List ℕ) (j : ℕ) → j < length (lowest 0 n l)

@@ -1,10 +1,10 @@
 -- What a step does, as far as a walk of steps needs it: the labels of the calculus, soundness, cells, what waits.
-use Rattle.std.specs.Prelude.{◌≡◌, refl, List, [], ◌∷◌, ◌++◌, ℕ, zero, suc, ◌+◌, ◌*◌, ◌≤◌, ◌<◌, length}
+use Rattle.std.specs.Prelude.{◌≡◌, refl, List, [], ◌∷◌, ◌++◌, ℕ, suc, ◌+◌, ◌*◌, ◌≤◌, ◌<◌, length}
 use Rattle.std.proofs.Common.{◌∙◌, ap, arith}
 use Rattle.calculus.specs.Calculus.{Book, Label, Com, Int, Step}
 use Rattle.calculus.specs.Descent.{tally, Steps, done, more}
 use Rattle.calculus.specs.Order.{interactions, uses}
-use Rattle.calculus.specs.Terms.{none, Conf}
+use Rattle.calculus.specs.Terms.{Conf}
 use Rattle.parts.specs.Limits.{rule_equations_max}
 use Rattle.model.specs.State.{St, used}
 use Rattle.model.specs.Table.{Entry, Table, Found, straight, turned, entry}
@@ -12,7 +12,6 @@ use Rattle.model.specs.Step.{Answer, moved, refused}
 use Rattle.model.specs.Sound.{Sound, meaning}
 use Rattle.model.specs.Follow.{Coms}
 use Rattle.model.proofs.Beneath.Read.{Read}
-use Rattle.calculus.specs.Calculus as C
 
 -- The cells of the right side that a step of the calculus brings; and at most how many equations it can leave
 -- waiting, if no rule puts more than L.

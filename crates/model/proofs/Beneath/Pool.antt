@@ -8,7 +8,7 @@ use Rattle.calculus.specs.Calculus.{Communication}
 use Rattle.calculus.proofs.Beneath.Count.{sum-append, sum-eqs, sum-eqs-append, first_term, rest_terms}
 use Rattle.calculus.proofs.Beneath.Perm.{perm_append_right}
 use Rattle.calculus.proofs.Beneath.Sub.{Sides_equivalence, whole, ≈of, back}
-use Rattle.calculus.specs.Terms.{δ, count, none, step, var, node, nil, cons, Term, Terms, Eqn, ◌==◌, Conf, ◌∼◌, names}
+use Rattle.calculus.specs.Terms.{δ, count, step, var, node, nil, cons, Term, Terms, Eqn, ◌==◌, Conf, ◌∼◌, names}
 use Rattle.calculus.specs.Terms.{eqs_names}
 use Rattle.parts.specs.Sides.{Side, name, Pair, ◌:=◌}
 use Rattle.model.specs.Table.{Cell}

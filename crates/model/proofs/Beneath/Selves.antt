@@ -1,12 +1,12 @@
 -- In a sound state a waiting equation x = x has a bare name, and a name on a side of a waiting equation is in use.
 use Rattle.std.proofs.Common.{subst, inl, inr}
-use Rattle.std.specs.Prelude.{◌≡◌, List, [], ◌∷◌, ◌++◌, ◌⊎◌, ℕ, zero, suc, ◌+◌, ◌*◌, ◌≤◌, ◌<◌, min, pred}
+use Rattle.std.specs.Prelude.{◌≡◌, List, [], ◌∷◌, ◌++◌, ◌⊎◌, ℕ, suc, ◌+◌, ◌*◌, ◌≤◌, ◌<◌, min, pred}
 use Rattle.std.proofs.Math.Path.{refl, ap}
 use native.Mathlib.Omega.{arith}
 use Rattle.std.proofs.Math.ListN.{get_or}
 use Rattle.calculus.proofs.Beneath.Count.{δ_same, sum-append, first_term, rest_terms}
 use Rattle.calculus.proofs.Beneath.Perm.{Ins, perm_ins}
-use Rattle.calculus.specs.Terms.{δ, count, none, Term, Terms, Eqn, names, eqs_names}
+use Rattle.calculus.specs.Terms.{δ, count, Term, Terms, Eqn, names, eqs_names}
 use Rattle.parts.specs.Sides.{name, Pair, ◌:=◌, side, Side}
 use Rattle.parts.specs.Codes.{code-side}
 use Rattle.model.specs.State.{listed, St, pulled, unpack, bound}

@@ -1,5 +1,5 @@
 -- Terms and the cells met on the way say from which sides and cells they were read: a reading goes back to one source.
-use Rattle.std.specs.Prelude.{ℕ, zero, suc, ◌+◌, ◌<◌, ◌≡◌, refl, List, [], ◌∷◌, ◌++◌, ◌⊎◌, length, get_or, drop}
+use Rattle.std.specs.Prelude.{ℕ, ◌+◌, ◌<◌, ◌≡◌, refl, List, [], ◌∷◌, ◌++◌, ◌⊎◌, length, get_or, drop}
 use Rattle.std.proofs.Common.{sym, ap, ap₂, ◌∙◌, append_assoc, inl, inr, arith, ext_get_or}
 use Rattle.calculus.specs.Terms.{var, node, Terms, Eqn, δ, count}
 use Rattle.calculus.specs.Calculus.{Rule}

@@ -1,6 +1,6 @@
 -- Each step from a sound state goes to a sound state, and is one row of the step table: no change, one or two
 -- Communications, or one Interaction.
-use Rattle.std.specs.Prelude.{◌≡◌, refl, List, [], ◌∷◌, ◌++◌, ◌⊎◌, ℕ, zero, suc, ◌+◌, ◌*◌, ◌-◌, ◌≤◌, ◌<◌, pred, length, get_or}
+use Rattle.std.specs.Prelude.{◌≡◌, refl, List, [], ◌∷◌, ◌++◌, ◌⊎◌, ℕ, suc, ◌+◌, ◌*◌, ◌-◌, ◌≤◌, ◌<◌, pred, length, get_or}
 use Rattle.std.proofs.Common.{sym, ◌∙◌, ap, subst, append_assoc, inl, inr, arith, length-append}
 use Rattle.std.proofs.Math.Decide.{dec_lt}
 use Rattle.std.proofs.Math.ListN.{get_or-eq_default}
@@ -25,7 +25,7 @@ use Rattle.model.proofs.Beneath.Facts.{unpack-pulled}
 use Rattle.model.proofs.Beneath.Fired.{fires}
 use Rattle.model.proofs.Beneath.Frame.{frame-waiting, Framed, good_of, framed_of, sound_of}
 use Rattle.model.proofs.Beneath.Moves.{Outcome, Kind, wiring, Moves, by_straight, by_turned}
-use Rattle.model.proofs.Beneath.Parts.{PairSides, PairSides_equivalence, Part, part, turn}
+use Rattle.model.proofs.Beneath.Parts.{PairSides, PairSides_equivalence, Part, part}
 use Rattle.model.proofs.Beneath.Pool.{regood, Good, conf, Refit}
 use Rattle.model.proofs.Beneath.PoolNet.{same_net}
 use Rattle.model.proofs.Beneath.Store.{pigeon}

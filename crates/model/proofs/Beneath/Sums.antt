@@ -1,5 +1,5 @@
 -- Sums over the numbers below n.
-use Rattle.std.specs.Prelude.{◌≡◌, refl, [], ◌⊎◌, ℕ, zero, suc, ◌+◌, ◌*◌, ◌≤◌, ◌<◌}
+use Rattle.std.specs.Prelude.{◌≡◌, refl, ◌⊎◌, ℕ, ◌+◌, ◌*◌, ◌≤◌, ◌<◌}
 use Rattle.std.proofs.Common.{sym, ◌∙◌, ap, ap₂, inl, inr, arith}
 use Rattle.std.proofs.Math.Decide.{dec_lt}
 use Rattle.calculus.proofs.Beneath.Count.{δ_other, δ-cases}

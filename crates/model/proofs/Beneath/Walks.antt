@@ -7,7 +7,7 @@ use native.Mathlib.Omega.{arith}
 use Rattle.calculus.specs.Calculus.{Book, Label, Step, Valid}
 use Rattle.calculus.specs.Descent.{Ends, tally, Steps, done}
 use Rattle.calculus.specs.Nets.{◌≈◌}
-use Rattle.calculus.specs.Order.{steps, interactions, uses, is_interaction, is_use}
+use Rattle.calculus.specs.Order.{interactions, uses, is_interaction, is_use}
 use Rattle.calculus.proofs.Beneath.Descent.{tally-append, along}
 use Rattle.calculus.proofs.Beneath.Order.{calculus_diamond}
 use Rattle.calculus.proofs.Beneath.Perm.{Path_equivalence, perm_append_left}

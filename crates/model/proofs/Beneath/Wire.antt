@@ -1,5 +1,5 @@
 -- Following a side, and fastening two ends, on the pool.
-use Rattle.std.specs.Prelude.{◌≡◌, refl, List, [], ◌∷◌, ◌++◌, ◌⊎◌, ℕ, zero, suc, ◌+◌, ◌*◌, ◌≤◌, ◌<◌, min, length, get_or, set}
+use Rattle.std.specs.Prelude.{◌≡◌, refl, List, [], ◌∷◌, ◌++◌, ◌⊎◌, ℕ, ◌+◌, ◌*◌, ◌≤◌, ◌<◌, min, length, get_or, set}
 use Rattle.std.proofs.Common.{sym, ◌∙◌, ap, append_assoc, inl, inr, arith, length-set, get_or-set_same, get_or-set_other}
 use Rattle.std.proofs.Math.Decide.{ℕ_discrete}
 use Rattle.calculus.specs.Calculus.{Book, Step, communication}
@@ -16,7 +16,7 @@ use Rattle.model.specs.Reading.{bonds, pool_of}
 use Rattle.model.specs.Sound.{Mutual}
 use Rattle.model.proofs.Beneath.Bonds.{◌≃◌, ≃_refl, ≃_of, Within, bonds-drop, mutual_drop}
 use Rattle.model.proofs.Beneath.Facts.{used-set}
-use Rattle.model.proofs.Beneath.Parts.{PairSides, PairSides_equivalence, Part, part, same}
+use Rattle.model.proofs.Beneath.Parts.{PairSides, PairSides_equivalence, Part, part}
 use Rattle.model.proofs.Beneath.Pool.{communicate, Good, conf, in_range, Named, named, Met}
 
 pub pool-bonds : (W K l : List Pair) (ns ns' : List ℕ) → bonds 0 ns ≃ l ++ bonds 0 ns'

@@ -1,5 +1,5 @@
 -- `parts::decode` meets its contract.
-use Rattle.std.proofs.Common.{◌≡◌, refl, ap, ℕ, zero, suc, ◌/◌, ◌%◌, ◌<◌, arith, mod-lt}
+use Rattle.std.proofs.Common.{◌≡◌, refl, ap, ℕ, zero, suc, ◌/◌, ◌%◌}
 use Rattle.parts.specs.Sides.{name, cell, side}
 use Rattle.parts.specs.Typed.{typed}
 use Rattle.parts.proofs.decode.Goals as goal

@@ -1,5 +1,5 @@
 -- A place is below the length exactly where some byte passes.
-use Rattle.std.specs.Prelude.{ℕ, suc, ◌≤◌, ◌<◌, ◌≡◌, refl, Bool, true, false, cond, not, ◌&&◌, ◌||◌, List, [], ◌∷◌, length, ltb, eqb}
+use Rattle.std.specs.Prelude.{ℕ, suc, ◌≤◌, ◌≡◌, refl, Bool, true, false, cond, not, ◌&&◌, ◌||◌, List, [], ◌∷◌, length, ltb, eqb}
 use Rattle.std.proofs.Common.{arith, lt-ltb}
 use Rattle.std.proofs.Math.Dec.{leb-suc-suc, eqb-zero-suc, eqb-suc-suc}
 use Rattle.texts.specs.Bytes.{any, all, fault2}

@@ -1,11 +1,10 @@
 -- The words of a field one after the other, by where each begins and ends: for a caller that counts cells and names.
-use Rattle.std.specs.Prelude.{ℕ, zero, suc, ◌+◌, ◌-◌, ◌≤◌, ◌<◌, ◌≡◌, refl, Bool, true, false, cond, not, List, [], ◌∷◌, ◌++◌, map, length, take, drop}
-use Rattle.std.proofs.Common.{sym, ap, ◌∙◌, append_assoc, append-nil, arith, zero-add, length-drop, drop_of_length-le, drop-drop}
+use Rattle.std.specs.Prelude.{ℕ, suc, ◌+◌, ◌-◌, ◌≤◌, ◌<◌, ◌≡◌, refl, Bool, true, false, cond, not, List, [], ◌∷◌, ◌++◌, map, length, take, drop}
+use Rattle.std.proofs.Common.{sym, ap, ◌∙◌, append-nil, arith, length-drop, drop-drop}
 use Rattle.std.proofs.lemmas.List.{map-append}
 use Rattle.std.proofs.Math.Seq.{append_snoc}
 use Rattle.texts.specs.Bytes.{Word, word_byte}
 use Rattle.texts.proofs.Beneath.Walk.{Met, depth, met, walk}
-use Rattle.texts.proofs.Beneath.Tools.{never}
 use Rattle.scan.specs.Places.{place}
 use Rattle.scan.specs.Laws.Placing.{place_le}
 use Rattle.scan.specs.Words.{word_start, word_end, words_in}

@@ -9,7 +9,6 @@ use Rattle.std.proofs.Math.Decide.{dec_lt}
 use Rattle.std.proofs.Math.ListN.{length}
 use borrow.Author.Tests.{eqb-true, ne_eqb, ltb-true}
 use Rattle.calculus.specs.Terms.{names, eqs_names, δ, count}
-use Rattle.calculus.specs.Terms as Calculus
 use Rattle.calculus.proofs.Beneath.Count.{sum-append}
 use Rattle.parts.specs.Sides.{name}
 use Rattle.model.specs.Table.{Cell, arity, no_cell}
@@ -21,7 +20,7 @@ use Rattle.model.specs.State.{from}
 use Rattle.model.specs.Sound.{InOrder, Means}
 use Rattle.model.specs.SoundTable.{Declared}
 use Rattle.texts.specs.Bytes.{Word, all, different, index_of}
-use Rattle.texts.specs.Terms.{Term, Terms}
+use Rattle.texts.specs.Terms.{Term}
 use Rattle.texts.specs.Books.{Agent, Equation, Rule, Net, declared, sides, rights, cells_of, names_of, net_terms}
 use Rattle.texts.specs.Coded.{packed, codes, cells_from, rule_number, template, net_number, load, second_from, arity_at, unpaired}
 use Rattle.texts.specs.Meaning.{tree, trees, tree_equations, meant_rule, meant_net}

@@ -3,7 +3,7 @@ use Rattle.std.specs.Prelude.{ℕ, suc, ◌<◌, ◌≤◌, ◌≡◌, refl, Boo
 use Rattle.std.proofs.Common.{sym, ap, ◌∙◌, append-nil, append_assoc, arith, ltb-false, le-ltb, eqb-true, eq-eqb}
 use Rattle.parts.specs.Limits.{text_max, symbols_max, arity_max, rules_max}
 use Rattle.texts.specs.Bytes.{Word, Line, all, word_byte, fault2, lines, fields, decimal, text_of, line_of, letter, digit}
-use Rattle.texts.specs.Terms.{spell, symbol}
+use Rattle.texts.specs.Terms.{spell}
 use Rattle.texts.specs.Books.{Agent, Rule, Book, Record, is_agent, is_rule, records_of, write_record, write_agent, write_rule, write_header, add, no_book, print_book, sides, lefts, rights, word_rules, word_agent, word_rule}
 use Rattle.texts.specs.Answers.{fine, accepted, refused, need, refuse, read_lines}
 use Rattle.texts.specs.RuleText.{Counts, header_line, ruleless, shape_of, record_of, is_too_long, big_record, big_book, fault5, fault6, fault7, fault8, fault9, fault10, shape, judged, rule_line, counted, rules_of_lines, read_rules}

@@ -1,9 +1,7 @@
 -- `scan::cutting::field_start` meets its contract: the loop's invariant is `Started`.
-use Prim.Native.Nat.{◌-◌}
 use native.Mathlib.Omega.{arith}
-use lib.ListN.{length}
 use borrow.Author.Rules.{rules}
-use Rattle.scan.proofs.Cuts.{Started, started_none, started_here, started_more, started_end, tab-small}
+use Rattle.scan.proofs.Cuts.{started_none, started_here, started_more, started_end, tab-small}
 use Rattle.scan.proofs.cutting.field_start.Goals as goal
 
 pub loop-i-init : goal.loop-i-init

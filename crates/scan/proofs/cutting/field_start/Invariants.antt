@@ -1,9 +1,7 @@
 -- `scan::cutting::field_start` meets its contract: the loop's invariant is `Started`.
 use Prim.Native.Nat.{◌-◌}
-use native.Mathlib.Omega.{arith}
 use lib.ListN.{length}
-use borrow.Author.Rules.{rules}
-use Rattle.scan.proofs.Cuts.{Started, started_none, started_here, started_more, started_end, tab-small}
+use Rattle.scan.proofs.Cuts.{Started}
 use Rattle.scan.proofs.cutting.field_start.Given as goal
 
 abbrev pub invariant-loop-i : goal.invariant-loop-i

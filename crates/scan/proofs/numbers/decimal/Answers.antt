@@ -13,7 +13,7 @@ pub returns-then-digits_end-field : goal.returns-then-digits_end-field
 returns-then-digits_end-field c = search (rules, number-empty, number-long, number_other, number_one, number-zero, number-many)
 
 pub value-requires : goal.value-requires
-value-requires c =     digits_all _ _ c.digits_end.ensures
+value-requires c = digits_all _ _ c.digits_end.ensures
     c.if-digits_end-field.false
     c.if-field-gt4.false
 
@@ -24,7 +24,7 @@ pub returns-then-field-eq48 : goal.returns-then-field-eq48
 returns-then-field-eq48 c = search (rules, number-empty, number-long, number_other, number_one, number-zero, number-many)
 
 pub value-requires-2 : goal.value-requires-2
-value-requires-2 c =     digits_all _ _ c.digits_end.ensures
+value-requires-2 c = digits_all _ _ c.digits_end.ensures
     c.if-digits_end-field.false
     c.if-field-gt4.false
 

@@ -2,9 +2,8 @@
 use Prim.Native.Nat.{◌-◌}
 use mathlib.Core.Bool.{not}
 use lib.ListN.{length}
-use borrow.Author.Rules.{rules}
 use Rattle.texts.specs.Bytes.{digit}
-use Rattle.scan.proofs.Scans.{Scanned, scanned_none, scanned_more, scanned_hit, scanned_end, told_not, from_front}
+use Rattle.scan.proofs.Scans.{Scanned}
 use Rattle.scan.proofs.numbers.digits_end.Given as goal
 
 abbrev pub invariant-loop-i : goal.invariant-loop-i

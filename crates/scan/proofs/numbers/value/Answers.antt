@@ -1,9 +1,7 @@
 -- `scan::numbers::value` meets its contract: the loop's invariant is `Valued`.
-use Prim.Native.Nat.{◌-◌}
 use native.Mathlib.Omega.{arith}
-use lib.ListN.{length}
 use borrow.Author.Rules.{rules}
-use Rattle.scan.proofs.Digits.{Valued, valued_none, valued_small, valued_more, valued_end, digit_at}
+use Rattle.scan.proofs.Digits.{valued_none, valued_small, valued_more, valued_end, digit_at}
 use Rattle.scan.proofs.numbers.value.Goals as goal
 
 pub loop-i-init : goal.loop-i-init
@@ -19,11 +17,11 @@ pub overflow_cast-v : goal.overflow_cast-v
 overflow_cast-v c = omega (arith, digit_at _ _ c.requires c.loop-i-test.true)
 
 pub overflow_add-v : goal.overflow_add-v
-overflow_add-v c =     omega (
-      arith,
-      valued_small _ _ _ c.requires c.loop-i.invariant c.loop-i-test.true,
-      digit_at _ _ c.requires c.loop-i-test.true,
-    )
+overflow_add-v c = omega (
+  arith,
+  valued_small _ _ _ c.requires c.loop-i.invariant c.loop-i-test.true,
+  digit_at _ _ c.requires c.loop-i-test.true,
+)
 
 pub loop-i-preserved : goal.loop-i-preserved
 loop-i-preserved c = search (rules, valued_more)

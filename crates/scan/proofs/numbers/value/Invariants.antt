@@ -1,9 +1,7 @@
 -- `scan::numbers::value` meets its contract: the loop's invariant is `Valued`.
 use Prim.Native.Nat.{◌-◌}
-use native.Mathlib.Omega.{arith}
 use lib.ListN.{length}
-use borrow.Author.Rules.{rules}
-use Rattle.scan.proofs.Digits.{Valued, valued_none, valued_small, valued_more, valued_end, digit_at}
+use Rattle.scan.proofs.Digits.{Valued}
 use Rattle.scan.proofs.numbers.value.Given as goal
 
 abbrev pub invariant-loop-i : goal.invariant-loop-i

@@ -1,5 +1,4 @@
 -- `scan::words::identifier` meets its contract: a law for each way out.
-use borrow.Author.Rules.{rules}
 use Rattle.scan.proofs.Compare.{identifier_asks, whole-empty, whole-stop}
 use Rattle.scan.proofs.words.identifier.Goals as goal
 

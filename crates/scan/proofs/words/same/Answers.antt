@@ -1,8 +1,6 @@
 -- `scan::words::same` meets its contract: the loop's invariant is `Agreed`.
-use Prim.Native.Nat.{◌-◌}
-use lib.ListN.{length}
 use borrow.Author.Rules.{rules}
-use Rattle.scan.proofs.Compare.{Agreed, same_not, agreed_none, agreed_more, agreed_not, agreed_end, agreed-inside}
+use Rattle.scan.proofs.Compare.{same_not, agreed_none, agreed_more, agreed_not, agreed_end}
 use Rattle.scan.proofs.words.same.Goals as goal
 
 pub returns-then-a-b : goal.returns-then-a-b

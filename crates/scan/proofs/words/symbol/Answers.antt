@@ -1,5 +1,4 @@
 -- `scan::words::symbol` meets its contract: a law for each way out.
-use borrow.Author.Rules.{rules}
 use Rattle.scan.proofs.Compare.{symbol_asks, whole-empty, whole-stop}
 use Rattle.scan.proofs.words.symbol.Goals as goal
 

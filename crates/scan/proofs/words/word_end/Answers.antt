@@ -1,10 +1,6 @@
 -- `scan::words::word_end` meets its contract: the loop's invariant is `Scanned`.
-use Prim.Native.Nat.{◌-◌}
-use mathlib.Core.Bool.{not}
-use lib.ListN.{length}
 use borrow.Author.Rules.{rules}
-use Rattle.texts.specs.Bytes.{word_byte}
-use Rattle.scan.proofs.Scans.{Scanned, scanned_none, scanned_more, scanned_hit, scanned_end, told_not}
+use Rattle.scan.proofs.Scans.{scanned_none, scanned_more, scanned_hit, scanned_end, told_not}
 use Rattle.scan.proofs.words.word_end.Goals as goal
 
 pub loop-i-init : goal.loop-i-init

@@ -1,9 +1,6 @@
 -- `scan::words::word_start` meets its contract: the loop's invariant is `Scanned`.
-use Prim.Native.Nat.{◌-◌}
-use lib.ListN.{length}
 use borrow.Author.Rules.{rules}
-use Rattle.texts.specs.Bytes.{word_byte}
-use Rattle.scan.proofs.Scans.{Scanned, scanned_none, scanned_more, scanned_hit, scanned_end, told}
+use Rattle.scan.proofs.Scans.{scanned_none, scanned_more, scanned_hit, scanned_end, told}
 use Rattle.scan.proofs.words.word_start.Goals as goal
 
 pub loop-i-init : goal.loop-i-init
