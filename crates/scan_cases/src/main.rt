@@ -1,6 +1,7 @@
 // Runs the scanning leaves on hostile lines and texts, and prints what each answers. The short lines come from standard
 // input, a name and the bytes after a bar; the long ones are made here.
 #![tactic(auto)]
+
 ghost use Rattle.std.specs.Prelude.{◌≤◌, IfOk, length};
 ghost use Rattle.scan_cases.specs.Within.{Within};
 
