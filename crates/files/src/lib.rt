@@ -1,5 +1,6 @@
 // The text of a file.
 #![tactic(auto)]
+
 ghost use Rattle.std.specs.Counts.{IsPrefixLen};
 
 use std::fs;

@@ -1,5 +1,6 @@
 // Reads fields with the agents add/2, S/1, Z/0, four/4, and prints each answer with the cells and names on the sheet.
 #![tactic(auto)]
+
 ghost use Rattle.std.specs.Prelude.{◌<◌};
 
 use parts::{CellNo, NameNo};
