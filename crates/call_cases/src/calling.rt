@@ -1,91 +1,99 @@
 // Steps, runs and answers, and what each call says.
 use crate::fields::{letter, number, word};
 use crate::orders::orders;
-use crate::showing::{numeral, out};
 use answer::{EndAnswer, read_answer};
 use machine::calls::{RunAnswer, StepAnswer};
 use parts::Limits;
+use std::io;
 
-fn stepped(a: StepAnswer) {
+fn stepped(rt: &impl Print, a: StepAnswer) -> io::Result<()> {
     match a {
-        StepAnswer::Moved => out(b"\tmoved"),
-        StepAnswer::Unsound => out(b"\t16"),
-        StepAnswer::NoPick => out(b"\t12"),
-        StepAnswer::NoRoom => out(b"\t13"),
+        StepAnswer::Moved => print!(rt; "\tmoved"),
+        StepAnswer::Unsound => print!(rt; "\t16"),
+        StepAnswer::NoPick => print!(rt; "\t12"),
+        StepAnswer::NoRoom => print!(rt; "\t13"),
     }
 }
 
-fn after(what: &[u8], made: u32) {
-    out(what);
-    numeral(made as u64);
-}
-
-fn ran(a: RunAnswer) {
+fn ran(rt: &impl Print, a: RunAnswer) -> io::Result<()> {
     match a {
-        RunAnswer::Ended(n) => after(b"\tended ", n),
-        RunAnswer::Paused(n) => after(b"\tpaused ", n),
-        RunAnswer::NoRoom(n) => after(b"\tnoroom ", n),
-        RunAnswer::Unsound => out(b"\t16"),
-        RunAnswer::TooMuch => out(b"\t17"),
+        RunAnswer::Ended(n) => print!(rt; "\tended {n}"),
+        RunAnswer::Paused(n) => print!(rt; "\tpaused {n}"),
+        RunAnswer::NoRoom(n) => print!(rt; "\tnoroom {n}"),
+        RunAnswer::Unsound => print!(rt; "\t16"),
+        RunAnswer::TooMuch => print!(rt; "\t17"),
     }
 }
 
-fn read(length: usize, loops: u32, stuck: u16, knot: u16) {
-    out(b"read ");
-    numeral(length as u64);
-    after(b" ", loops);
-    after(b" ", stuck as u32);
-    after(b" ", knot as u32);
-}
-
-fn given(a: EndAnswer) {
+fn given(rt: &impl Print, a: EndAnswer) -> io::Result<()> {
     match a {
-        EndAnswer::Unsound => out(b"16"),
-        EndAnswer::Waits => out(b"14"),
-        EndAnswer::Long => out(b"15"),
+        EndAnswer::Unsound => print!(rt; "16"),
+        EndAnswer::Waits => print!(rt; "14"),
+        EndAnswer::Long => print!(rt; "15"),
         EndAnswer::Read {
             length,
             loops,
             stuck,
             knot,
-        } => read(length, loops, stuck, knot),
+        } => print!(rt; "read {length} {loops} {stuck} {knot}"),
     }
 }
 
 // All bytes of the output are printed, also those after the answer.
-fn asked(table: &[u8; Limits::TABLE], state: &[u16; Limits::STATE], bytes: &mut [u8]) {
-    given(read_answer(table, state, bytes));
-}
-
-fn answered(table: &[u8; Limits::TABLE], state: &[u16; Limits::STATE], bytes: &mut [u8]) {
-    asked(table, state, bytes);
-    out(b"\n");
-    out(bytes);
-    out(b"\n");
+fn answered(
+    rt: &impl Print,
+    table: &[u8; Limits::TABLE],
+    state: &[u16; Limits::STATE],
+    bytes: &mut [u8],
+) -> io::Result<()> {
+    given(rt, read_answer(table, state, bytes))?;
+    println!(rt)?;
+    rt.write_all(bytes)?;
+    println!(rt)
 }
 
 // `step` and a pick.
-fn step(line: &[u8], table: &[u8; Limits::TABLE], state: &mut [u16; Limits::STATE]) {
-    stepped(machine::calls::step(table, state, word(line, 1)));
+fn step(
+    rt: &impl Print,
+    line: &[u8],
+    table: &[u8; Limits::TABLE],
+    state: &mut [u16; Limits::STATE],
+) -> io::Result<()> {
+    stepped(rt, machine::calls::step(table, state, word(line, 1)))
 }
 
 // `run` and a budget.
-fn run(line: &[u8], table: &[u8; Limits::TABLE], state: &mut [u16; Limits::STATE]) {
-    ran(machine::calls::run(table, state, number(line, 1)));
+fn run(
+    rt: &impl Print,
+    line: &[u8],
+    table: &[u8; Limits::TABLE],
+    state: &mut [u16; Limits::STATE],
+) -> io::Result<()> {
+    ran(rt, machine::calls::run(table, state, number(line, 1)))
 }
 
 // `answer` and the length of an output, which is full of one byte before.
-fn answer(line: &[u8], table: &[u8; Limits::TABLE], state: &[u16; Limits::STATE]) {
+fn answer(
+    rt: &impl Print,
+    line: &[u8],
+    table: &[u8; Limits::TABLE],
+    state: &[u16; Limits::STATE],
+) -> io::Result<()> {
     let mut bytes = [b'.'; 64];
-    let n = io::count(word(line, 1) as isize, &bytes);
-    answered(table, state, &mut bytes[..n]);
+    let n = (word(line, 1) as usize).min(bytes.len());
+    answered(rt, table, state, &mut bytes[..n])
 }
 
-pub fn call(line: &[u8], table: &[u8; Limits::TABLE], state: &mut [u16; Limits::STATE]) {
+pub fn call(
+    rt: &impl Print,
+    line: &[u8],
+    table: &[u8; Limits::TABLE],
+    state: &mut [u16; Limits::STATE],
+) -> io::Result<()> {
     match letter(line) {
-        b's' => step(line, table, state),
-        b'r' => run(line, table, state),
-        b'a' => answer(line, table, state),
-        _ => orders(line, table, state),
+        b's' => step(rt, line, table, state),
+        b'r' => run(rt, line, table, state),
+        b'a' => answer(rt, line, table, state),
+        _ => orders(rt, line, table, state),
     }
 }

@@ -25,10 +25,8 @@ fn after_digit(v: u32, b: u8) -> u32 {
 // The number that the digits of a field make, whatever stands between them.
 fn digits(field: &[u8]) -> u32 {
     let mut v: u32 = 0;
-    let mut i: usize = 0;
-    while i < field.len() {
-        v = after_digit(v, field[i]);
-        i += 1;
+    for b in field {
+        v = after_digit(v, *b);
     }
     v
 }

@@ -4,6 +4,8 @@
 use files::read_file;
 use parts::Limits;
 use scan::cutting::find;
+use std::io;
+use std::rt::Files;
 use terms::words::part;
 
 mod fields; // fields.rt: what the fields of a line say
@@ -14,57 +16,68 @@ mod orders; // orders.rt: the same wires in every order of picks
 mod showing; // showing.rt: a state on one line
 
 // What one line says. A line with any other letter says nothing.
-fn obey(line: &[u8], table: &mut [u8; Limits::TABLE], state: &mut [u16; Limits::STATE]) {
+fn obey<R: Files + Print>(
+    rt: &R,
+    line: &[u8],
+    table: &mut [u8; Limits::TABLE],
+    state: &mut [u16; Limits::STATE],
+) -> io::Result<()> {
     match fields::letter(line) {
-        b't' | b'n' | b'b' | b'w' | b'f' => making::make(line, table, state),
-        b'g' | b'l' | b'h' | b'd' => judging::judge(line, table, state),
-        b's' | b'r' | b'a' | b'o' => calling::call(line, table, state),
-        b'p' | b'v' | b'c' | b'e' => showing::show(line, state),
+        b't' | b'n' | b'b' | b'w' | b'f' => making::make(rt, line, table, state),
+        b'g' | b'l' | b'h' | b'd' => judging::judge(rt, line, table, state)?,
+        b's' | b'r' | b'a' | b'o' => calling::call(rt, line, table, state)?,
+        b'p' | b'v' | b'c' | b'e' => showing::show(rt, line, state)?,
         _ => {}
     }
+    Ok(())
 }
 
 // Plays the line that begins at a place, and answers where the next one begins.
-fn play_line(
+fn play_line<R: Files + Print>(
+    rt: &R,
     script: &[u8],
     at: usize,
     table: &mut [u8; Limits::TABLE],
     state: &mut [u16; Limits::STATE],
-) -> usize {
+) -> io::Result<usize> {
     if Limits::TEXT <= at {
-        return at;
+        return Ok(at);
     }
     let n = find(part(script, at, Limits::TEXT), b'\n');
     if Limits::TEXT <= n {
-        return Limits::TEXT;
+        return Ok(Limits::TEXT);
     }
-    obey(part(script, at, n), table, state);
-    at + n + 1
+    obey(rt, part(script, at, n), table, state)?;
+    Ok(at + n + 1)
 }
 
 // A script has no more lines than bytes.
-fn play_lines(script: &[u8], table: &mut [u8; Limits::TABLE], state: &mut [u16; Limits::STATE]) {
+fn play_lines<R: Files + Print>(
+    rt: &R,
+    script: &[u8],
+    table: &mut [u8; Limits::TABLE],
+    state: &mut [u16; Limits::STATE],
+) -> io::Result<()> {
     let mut at: usize = 0;
-    let mut left = script.len();
-    while 0 < left {
-        at = play_line(script, at, table, state);
-        left -= 1;
+    for _ in 0..script.len() {
+        at = play_line(rt, script, at, table, state)?;
     }
+    Ok(())
 }
 
 // A script begins with an empty table and an empty state.
-fn play(name: &[u8]) {
+fn play<R: Files + Print>(rt: &R, name: &[u8]) -> io::Result<()> {
     let mut table = table::writing::empty_table();
     let mut state = state::empty();
     let mut script = [0u8; Limits::TEXT];
-    let n = read_file(name, &mut script);
-    play_lines(part(&script, 0, n), &mut table, &mut state);
+    let n = read_file(rt, name, &mut script);
+    play_lines(rt, part(&script, 0, n), &mut table, &mut state)
 }
 
-fn main() {
-    play(b"sound.txt");
-    play(b"steps.txt");
-    play(b"wires.txt");
-    play(b"rooms.txt");
-    play(b"answers.txt");
+fn main(rt: HostRuntime) -> io::Result<()> {
+    play(&rt, b"sound.txt")?;
+    play(&rt, b"steps.txt")?;
+    play(&rt, b"wires.txt")?;
+    play(&rt, b"rooms.txt")?;
+    play(&rt, b"answers.txt")
 }

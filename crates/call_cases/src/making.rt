@@ -4,6 +4,7 @@ use files::read_file;
 use parts::Limits;
 use scan::cutting::{field, field_count};
 use state::Layout as Words;
+use std::rt::Files;
 use table::Layout as Bytes;
 use terms::words::part;
 
@@ -12,9 +13,9 @@ fn take_rules(text: &[u8], table: &mut [u8; Limits::TABLE]) {
     rules::read_rules(text, table);
 }
 
-fn read_table(line: &[u8], table: &mut [u8; Limits::TABLE]) {
+fn read_table(rt: &impl Files, line: &[u8], table: &mut [u8; Limits::TABLE]) {
     let mut text = [0u8; Limits::TEXT];
-    let n = read_file(field(line, 1), &mut text);
+    let n = read_file(rt, field(line, 1), &mut text);
     take_rules(part(&text, 0, n), table);
 }
 
@@ -23,9 +24,14 @@ fn take_net(text: &[u8], table: &[u8; Limits::TABLE], state: &mut [u16; Limits::
     nets::read_net(text, table, state);
 }
 
-fn read_state(line: &[u8], table: &[u8; Limits::TABLE], state: &mut [u16; Limits::STATE]) {
+fn read_state(
+    rt: &impl Files,
+    line: &[u8],
+    table: &[u8; Limits::TABLE],
+    state: &mut [u16; Limits::STATE],
+) {
     let mut text = [0u8; Limits::TEXT];
-    let n = read_file(field(line, 1), &mut text);
+    let n = read_file(rt, field(line, 1), &mut text);
     take_net(part(&text, 0, n), table, state);
 }
 
@@ -95,11 +101,8 @@ fn put_field(line: &[u8], k: usize, state: &mut [u16; Limits::STATE]) {
 
 // `word`, a part, a row, a place in it, and the words stored from there on.
 fn put_words(line: &[u8], state: &mut [u16; Limits::STATE]) {
-    let n = field_count(line);
-    let mut k: usize = 4;
-    while k < n {
+    for k in 4..field_count(line) {
         put_field(line, k, state);
-        k += 1;
     }
 }
 
@@ -122,21 +125,23 @@ fn put_row(line: &[u8], k: u16, v: u16, state: &mut [u16; Limits::STATE]) {
 
 // `fill`, a part, its first row, a place in it, how many rows, what is stored in the first, and how much more in each next one.
 fn fill(line: &[u8], state: &mut [u16; Limits::STATE]) {
-    let n = word(line, 4);
     let more = word(line, 6);
     let mut v = word(line, 5);
-    let mut k: u16 = 0;
-    while k < n {
+    for k in 0..word(line, 4) {
         put_row(line, k, v, state);
         v = plus(v, more);
-        k += 1;
     }
 }
 
-pub fn make(line: &[u8], table: &mut [u8; Limits::TABLE], state: &mut [u16; Limits::STATE]) {
+pub fn make(
+    rt: &impl Files,
+    line: &[u8],
+    table: &mut [u8; Limits::TABLE],
+    state: &mut [u16; Limits::STATE],
+) {
     match letter(line) {
-        b't' => read_table(line, table),
-        b'n' => read_state(line, table, state),
+        b't' => read_table(rt, line, table),
+        b'n' => read_state(rt, line, table, state),
         b'b' => put_byte(line, table),
         b'w' => put_words(line, state),
         _ => fill(line, state),

@@ -2,10 +2,10 @@
 ghost use Rattle.std.specs.Prelude.{◌<◌, ◌≤◌};
 
 use crate::fields::{count, number, word};
-use crate::showing::{numeral, out};
 use machine::calls::{StepAnswer, step};
 use parts::{Limits, NameNo};
 use state::{Layout, Part, Pile};
+use std::io;
 
 // Equation k that waits, its sides exchanged.
 fn turn(state: &mut [u16; Limits::STATE], k: usize)
@@ -21,13 +21,11 @@ fn turn(state: &mut [u16; Limits::STATE], k: usize)
 fn turned(first: &[u16; Limits::STATE], mask: u16) -> [u16; Limits::STATE] {
     let mut s = *first;
     let mut m = mask;
-    let mut k: usize = 0;
-    while k < 8 {
+    for k in 0..8 {
         if m % 2 == 1 {
             turn(&mut s, k);
         }
         m = m / 2;
-        k += 1;
     }
     s
 }
@@ -35,9 +33,7 @@ fn turned(first: &[u16; Limits::STATE], mask: u16) -> [u16; Limits::STATE] {
 fn is_moved(a: StepAnswer) -> bool {
     match a {
         StepAnswer::Moved => true,
-        StepAnswer::Unsound => false,
-        StepAnswer::NoPick => false,
-        StepAnswer::NoRoom => false,
+        StepAnswer::Unsound | StepAnswer::NoPick | StepAnswer::NoRoom => false,
     }
 }
 
@@ -48,8 +44,7 @@ fn moves(table: &[u8; Limits::TABLE], state: &mut [u16; Limits::STATE], pick: u1
 // Makes the picks that a number stands for, at most eight of them, and answers whether nothing waits then.
 fn walk(table: &[u8; Limits::TABLE], state: &mut [u16; Limits::STATE], order: u16) -> bool {
     let mut q = order;
-    let mut left: u16 = 8;
-    while 0 < left {
+    for _ in 0..8 {
         let w = state::count(state, Pile::Waits);
         if w == 0 {
             return true;
@@ -58,7 +53,6 @@ fn walk(table: &[u8; Limits::TABLE], state: &mut [u16; Limits::STATE], order: u1
             return false;
         }
         q = q / w;
-        left -= 1;
     }
     false
 }
@@ -96,14 +90,15 @@ fn one_order(
 }
 
 // `orders`, a mask, a number of orders, and what each should leave: of that many orders, how many do.
-pub fn orders(line: &[u8], table: &[u8; Limits::TABLE], first: &[u16; Limits::STATE]) {
-    let many = word(line, 2);
+pub fn orders(
+    rt: &impl Print,
+    line: &[u8],
+    table: &[u8; Limits::TABLE],
+    first: &[u16; Limits::STATE],
+) -> io::Result<()> {
     let mut good: u16 = 0;
-    let mut order: u16 = 0;
-    while order < many {
+    for order in 0..word(line, 2) {
         good += one_order(line, table, first, order);
-        order += 1;
     }
-    out(b" ");
-    numeral(good as u64);
+    print!(rt; " {good}")
 }

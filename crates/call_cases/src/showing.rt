@@ -3,30 +3,17 @@ ghost use Rattle.std.specs.Prelude.{◌<◌};
 ghost use Rattle.parts.specs.Limits.{cells_max, names_max};
 
 use crate::fields::letter;
-use libc::STDOUT_FILENO;
 use parts::{CellNo, Limits, NameNo, Side, decode};
 use scan::cutting::field_start;
 use state::{Layout, Part, Pile};
+use std::io;
 use terms::words::part;
 
-pub fn out(s: &[u8]) {
-    io::write_all(STDOUT_FILENO, s);
-}
-
-pub fn numeral(n: u64) {
-    io::print_decimal(STDOUT_FILENO, n);
-}
-
-fn counted(what: &[u8], n: u64) {
-    out(what);
-    numeral(n);
-}
-
 // A side by its code: `x` and a name's number, or `c` and a cell's.
-fn side(code: u16) {
+fn side(rt: &impl Print, code: u16) -> io::Result<()> {
     match decode(code) {
-        Side::Name(n) => counted(b" x", n.0 as u64),
-        Side::Cell(n) => counted(b" c", n.0 as u64),
+        Side::Name(NameNo(n)) => print!(rt; " x{n}"),
+        Side::Cell(CellNo(n)) => print!(rt; " c{n}"),
     }
 }
 
@@ -40,129 +27,144 @@ fn word(state: &[u16; Limits::STATE], from: usize, i: usize) -> u16 {
     0
 }
 
-fn side_at(state: &[u16; Limits::STATE], from: usize, i: u16) {
-    side(word(state, from, i as usize));
-}
-
 // Sides, the first first.
-fn sides(state: &[u16; Limits::STATE], from: usize, n: u16) {
-    let mut i: u16 = 0;
-    while i < n {
-        side_at(state, from, i);
-        i += 1;
+fn sides(
+    rt: &impl Print,
+    state: &[u16; Limits::STATE],
+    from: usize,
+    n: u16,
+) -> io::Result<()> {
+    for i in 0..n {
+        side(rt, word(state, from, i as usize))?;
     }
+    Ok(())
 }
 
-fn pair_at(state: &[u16; Limits::STATE], from: usize, k: u16) {
+fn pair_at(
+    rt: &impl Print,
+    state: &[u16; Limits::STATE],
+    from: usize,
+    k: u16,
+) -> io::Result<()> {
     let i = 2 * (k as usize);
-    side(word(state, from, i));
-    side(word(state, from, i + 1));
-    out(b",");
+    side(rt, word(state, from, i))?;
+    side(rt, word(state, from, i + 1))?;
+    print!(rt; ",")
 }
 
 // Pairs of sides, the last first.
-fn pairs(state: &[u16; Limits::STATE], from: usize, n: u16) {
-    let mut k = n;
-    while 0 < k {
-        k -= 1;
-        pair_at(state, from, k);
+fn pairs(
+    rt: &impl Print,
+    state: &[u16; Limits::STATE],
+    from: usize,
+    n: u16,
+) -> io::Result<()> {
+    for k in (0..n).rev() {
+        pair_at(rt, state, from, k)?;
     }
+    Ok(())
 }
 
 // A cell in use: its number, its symbol and its four codes.
-fn cell(state: &[u16; Limits::STATE], c: u16)
+fn cell(rt: &impl Print, state: &[u16; Limits::STATE], c: u16) -> io::Result<()>
     requires { c < cells_max }
 {
     let w = state::symbol_word(state, CellNo(c));
     if 0 < w {
-        counted(b" c", c as u64);
-        counted(b":", (w - 1) as u64);
+        let symbol = w - 1;
+        print!(rt; " c{c}:{symbol}")?;
         sides(
+            rt,
             state,
             Layout::ARGUMENTS_AT + Limits::ARITY * (c as usize),
             4,
-        );
-        out(b",");
+        )?;
+        print!(rt; ",")?;
     }
+    Ok(())
 }
 
-fn cells(state: &[u16; Limits::STATE]) {
-    let mut c: usize = 0;
-    while c < Limits::CELLS {
-        cell(state, c as u16);
-        c += 1;
+fn cells(rt: &impl Print, state: &[u16; Limits::STATE]) -> io::Result<()> {
+    for c in 0..Limits::CELLS {
+        cell(rt, state, c as u16)?;
     }
+    Ok(())
 }
 
 // A name in use: its number, and what it is tied or joined to.
-fn name(state: &[u16; Limits::STATE], x: u16)
+fn name(rt: &impl Print, state: &[u16; Limits::STATE], x: u16) -> io::Result<()>
     requires { x < names_max }
 {
     let w = state::name_word(state, NameNo(x));
     if 0 < w {
-        counted(b" x", x as u64);
+        print!(rt; " x{x}")?;
         if 1 < w {
-            out(b":");
-            side(w - 2);
+            print!(rt; ":")?;
+            side(rt, w - 2)?;
         }
-        out(b",");
+        print!(rt; ",")?;
     }
+    Ok(())
 }
 
-fn names(state: &[u16; Limits::STATE]) {
-    let mut x: usize = 0;
-    while x < Limits::NAMES {
-        name(state, x as u16);
-        x += 1;
+fn names(rt: &impl Print, state: &[u16; Limits::STATE]) -> io::Result<()> {
+    for x in 0..Limits::NAMES {
+        name(rt, state, x as u16)?;
     }
+    Ok(())
 }
 
 // The lists of a state.
-fn lists(state: &[u16; Limits::STATE]) {
-    out(b"\twaits");
-    pairs(state, Layout::WAITING_AT, state::count(state, Pile::Waits));
-    out(b"\tstuck");
-    pairs(state, Layout::STUCK_AT, state::count(state, Pile::Stucks));
-    out(b"\tface");
-    sides(state, Layout::FACE_AT, state::count(state, Pile::Faces));
+fn lists(rt: &impl Print, state: &[u16; Limits::STATE]) -> io::Result<()> {
+    print!(rt; "\twaits")?;
+    pairs(
+        rt,
+        state,
+        Layout::WAITING_AT,
+        state::count(state, Pile::Waits),
+    )?;
+    print!(rt; "\tstuck")?;
+    pairs(
+        rt,
+        state,
+        Layout::STUCK_AT,
+        state::count(state, Pile::Stucks),
+    )?;
+    print!(rt; "\tface")?;
+    sides(rt, state, Layout::FACE_AT, state::count(state, Pile::Faces))
 }
 
 // `view`: the whole state.
-fn view(state: &[u16; Limits::STATE]) {
-    lists(state);
-    counted(b"\tloops ", state::loops(state) as u64);
-    out(b"\tcells");
-    cells(state);
-    out(b"\tnames");
-    names(state);
-    out(b"\n");
-}
-
-// How long its lists are.
-fn lengths(state: &[u16; Limits::STATE]) {
-    counted(b"\twaits ", state::count(state, Pile::Waits) as u64);
-    counted(b"\tstuck ", state::count(state, Pile::Stucks) as u64);
+fn view(rt: &impl Print, state: &[u16; Limits::STATE]) -> io::Result<()> {
+    lists(rt, state)?;
+    let loops = state::loops(state);
+    print!(rt; "\tloops {loops}\tcells")?;
+    cells(rt, state)?;
+    print!(rt; "\tnames")?;
+    names(rt, state)?;
+    println!(rt)
 }
 
 // `counts`: how many there are of each, where a whole state is too long for a line.
-fn counts(state: &[u16; Limits::STATE]) {
-    lengths(state);
-    counted(b"\tloops ", state::loops(state) as u64);
-    counted(b"\tcells ", state::in_use(state, Part::Symbols) as u64);
-    counted(b"\tnames ", state::in_use(state, Part::Names) as u64);
-    out(b"\n");
+fn counts(rt: &impl Print, state: &[u16; Limits::STATE]) -> io::Result<()> {
+    let waits = state::count(state, Pile::Waits);
+    let stuck = state::count(state, Pile::Stucks);
+    let loops = state::loops(state);
+    let cells = state::in_use(state, Part::Symbols);
+    let names = state::in_use(state, Part::Names);
+    println!(rt; "\twaits {waits}\tstuck {stuck}\tloops {loops}\tcells {cells}\tnames {names}")
 }
 
 // `print` and what is printed, tabs too.
-fn print(line: &[u8]) {
-    out(part(line, field_start(line, 1), Limits::TEXT));
+fn print(rt: &impl Print, line: &[u8]) -> io::Result<()> {
+    rt.write_all(part(line, field_start(line, 1), Limits::TEXT))
 }
 
-pub fn show(line: &[u8], state: &[u16; Limits::STATE]) {
+pub fn show(rt: &impl Print, line: &[u8], state: &[u16; Limits::STATE]) -> io::Result<()> {
     match letter(line) {
-        b'p' => print(line),
-        b'v' => view(state),
-        b'c' => counts(state),
-        _ => out(b"\n"),
+        b'p' => print(rt, line),
+        b'v' => view(rt, state),
+        b'c' => counts(rt, state),
+        _ => println!(rt),
     }
 }

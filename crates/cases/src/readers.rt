@@ -1,20 +1,16 @@
 // What the two readers answer to the texts of a case. The table and the state lent to them are full of what means nothing. After a
 // refusal they must hold it still; after an acceptance their counts are printed, and whether they are sound.
-use crate::print;
+use crate::LOOKED_FOR;
 use nets::NetAnswer;
 use parts::Limits;
 use rules::RulesAnswer;
 use scan::words::same;
 use state::{Part, Pile};
+use std::io;
 
 const BYTE: u8 = 167;
 
 const WORD: u16 = 40001;
-
-fn number(n: u64) {
-    print(b" ");
-    io::print_decimal(1, n);
-}
 
 // Whether a table and a state are as they were lent.
 fn table_kept(table: &[u8; Limits::TABLE]) -> bool {
@@ -23,92 +19,100 @@ fn table_kept(table: &[u8; Limits::TABLE]) -> bool {
 }
 
 fn state_kept(state: &[u16; Limits::STATE]) -> bool {
-    let mut i: usize = 0;
-    while i < Limits::STATE {
-        if state[i] != WORD {
+    for word in state {
+        if *word != WORD {
             return false;
         }
-        i += 1;
     }
     true
 }
 
-fn sound(is_sound: bool) {
+fn sound(rt: &impl Print, is_sound: bool) -> io::Result<()> {
     if is_sound {
-        print(b" sound");
-        return;
+        return print!(rt; " sound");
     }
-    print(b" not sound");
+    print!(rt; " not sound")
 }
 
-fn refused(n: u8, line: usize, kept: bool) {
-    print(b" refused");
-    number(n as u64);
-    number(line as u64);
+fn refused(rt: &impl Print, number: u8, line: usize, kept: bool) -> io::Result<()> {
+    print!(rt; " refused {number} {line}")?;
     if kept {
-        print(b" kept");
-        return;
+        return print!(rt; " kept");
     }
-    print(b" changed");
+    print!(rt; " changed")
 }
 
 // The symbols and the rules.
-fn rules_accepted(table: &[u8; Limits::TABLE]) {
-    print(b" accepted");
-    number(table::reading::symbol_count(table) as u64);
-    number(table::reading::rule_count(table) as u64);
-    sound(table_test::whole::table_sound(table));
+fn rules_accepted(rt: &impl Print, table: &[u8; Limits::TABLE]) -> io::Result<()> {
+    let symbols = table::reading::symbol_count(table);
+    let rules = table::reading::rule_count(table);
+    print!(rt; " accepted {symbols} {rules}")?;
+    sound(rt, table_test::whole::table_sound(table))
 }
 
 // The interface, the equations, the cells and the names.
-fn net_accepted(table: &[u8; Limits::TABLE], state: &[u16; Limits::STATE]) {
-    print(b" accepted");
-    number(state::count(state, Pile::Faces) as u64);
-    number(state::count(state, Pile::Waits) as u64);
-    number(state::in_use(state, Part::Symbols) as u64);
-    number(state::in_use(state, Part::Names) as u64);
-    sound(lent::both_sound(table, state));
+fn net_accepted(
+    rt: &impl Print,
+    table: &[u8; Limits::TABLE],
+    state: &[u16; Limits::STATE],
+) -> io::Result<()> {
+    let faces = state::count(state, Pile::Faces);
+    let waits = state::count(state, Pile::Waits);
+    let cells = state::in_use(state, Part::Symbols);
+    let names = state::in_use(state, Part::Names);
+    print!(rt; " accepted {faces} {waits} {cells} {names}")?;
+    sound(rt, lent::both_sound(table, state))
 }
 
-fn net_told(answer: NetAnswer, table: &[u8; Limits::TABLE], state: &[u16; Limits::STATE]) {
+fn net_told(
+    rt: &impl Print,
+    answer: NetAnswer,
+    table: &[u8; Limits::TABLE],
+    state: &[u16; Limits::STATE],
+) -> io::Result<()> {
     match answer {
-        NetAnswer::Accepted => net_accepted(table, state),
-        NetAnswer::Refused { number, line } => refused(number, line, state_kept(state)),
+        NetAnswer::Accepted => net_accepted(rt, table, state),
+        NetAnswer::Refused { number, line } => refused(rt, number, line, state_kept(state)),
     }
 }
 
-fn read_net(text: &[u8], table: &[u8; Limits::TABLE]) {
+fn read_net(rt: &impl Print, text: &[u8], table: &[u8; Limits::TABLE]) -> io::Result<()> {
     let mut state = [WORD; Limits::STATE];
-    print(b", net");
+    print!(rt; ", net")?;
     let answer = nets::read_net(text, table, &mut state);
-    net_told(answer, table, &state);
+    net_told(rt, answer, table, &state)
 }
 
-fn rules_told(answer: RulesAnswer, table: &[u8; Limits::TABLE], net: &[u8]) {
+fn rules_told(
+    rt: &impl Print,
+    answer: RulesAnswer,
+    table: &[u8; Limits::TABLE],
+    net: &[u8],
+) -> io::Result<()> {
     match answer {
         RulesAnswer::Accepted => {
-            rules_accepted(table);
-            read_net(net, table);
+            rules_accepted(rt, table)?;
+            read_net(rt, net, table)
         }
-        RulesAnswer::Refused { number, line } => refused(number, line, table_kept(table)),
+        RulesAnswer::Refused { number, line } => refused(rt, number, line, table_kept(table)),
     }
 }
 
 // Where the rules are refused, the net text is not looked at.
-pub fn read_both(rules: &[u8], net: &[u8]) {
+pub fn read_both(rt: &impl Print, rules: &[u8], net: &[u8]) -> io::Result<()> {
     let mut table = [BYTE; Limits::TABLE];
-    print(b": rules");
+    print!(rt; ": rules")?;
     let answer = rules::read_rules(rules, &mut table);
-    rules_told(answer, &table, net);
+    rules_told(rt, answer, &table, net)
 }
 
 // A table with one byte changed that no rule text gives: 16 on line 0, before the length of the text is looked at.
-pub fn read_damaged() {
+pub fn read_damaged(rt: &impl Print) -> io::Result<()> {
     let mut table = table::writing::empty_table();
     table[Limits::TABLE - 1] = 1;
-    print(b"damaged table, short text");
-    read_net(b"net\t0\t0\nface\n", &table);
-    print(b"\ndamaged table, long text");
-    read_net(&[0u8; Limits::TEXT + 1], &table);
-    print(b"\n");
+    print!(rt; "damaged table, short text")?;
+    read_net(rt, b"net\t0\t0\nface\n", &table)?;
+    print!(rt; "\ndamaged table, long text")?;
+    read_net(rt, &[0u8; LOOKED_FOR], &table)?;
+    println!(rt)
 }

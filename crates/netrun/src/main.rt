@@ -4,19 +4,18 @@ use evaluation::evaluate;
 use evaluation::sizes::Output;
 use files::read_file;
 use parts::Limits;
+use std::io;
 use terms::words::part;
 
-fn print(out: &[u8; Output::SIZE], k: usize) {
-    io::write_all(1, part(out, 0, k));
-}
-
 // One byte more than a text may have is looked for.
-fn main() {
-    let mut rules = [0u8; Limits::TEXT + 1];
-    let mut net = [0u8; Limits::TEXT + 1];
-    let r = read_file(b"rules.txt", &mut rules);
-    let n = read_file(b"net.txt", &mut net);
+const LOOKED_FOR: usize = Limits::TEXT + 1;
+
+fn main(rt: HostRuntime) -> io::Result<()> {
+    let mut rules = [0u8; LOOKED_FOR];
+    let mut net = [0u8; LOOKED_FOR];
+    let r = read_file(&rt, b"rules.txt", &mut rules);
+    let n = read_file(&rt, b"net.txt", &mut net);
     let mut out = [0u8; Output::SIZE];
     let k = evaluate(&rules[..r], &net[..n], &mut out);
-    print(&out, k);
+    rt.write_all(part(&out, 0, k))
 }

@@ -28,11 +28,9 @@ fn put(out: &mut [u8], at: usize, b: u8) -> usize {
 // `a(` k times.
 fn opened(out: &mut [u8], k: usize) -> usize {
     let mut n: usize = 0;
-    let mut j: usize = 0;
-    while j < k {
+    for _ in 0..k {
         n = put(out, n, b'a');
         n = put(out, n, b'(');
-        j += 1;
     }
     n
 }
@@ -40,10 +38,8 @@ fn opened(out: &mut [u8], k: usize) -> usize {
 // One byte k times from `at` on.
 fn run(out: &mut [u8], at: usize, b: u8, k: usize) -> usize {
     let mut n = at;
-    let mut j: usize = 0;
-    while j < k {
+    for _ in 0..k {
         n = put(out, n, b);
-        j += 1;
     }
     n
 }
@@ -65,10 +61,8 @@ pub fn nested(k: usize, b: u8, shut: bool, out: &mut [u8]) -> usize {
 // Every byte once, in order.
 pub fn all_bytes(out: &mut [u8]) -> usize {
     let mut n: usize = 0;
-    let mut b: u8 = 0;
-    while b < 255 {
+    for b in 0..=u8::MAX {
         n = put(out, n, b);
-        b += 1;
     }
-    put(out, n, 255)
+    n
 }

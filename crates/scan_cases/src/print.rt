@@ -1,30 +1,27 @@
 // Words and numbers of one printed line, parted by tabs.
-use libc::STDOUT_FILENO;
+use std::io;
 
-pub fn start(name: &[u8]) {
-    io::write_all(STDOUT_FILENO, name);
+pub fn start(rt: &impl Print, name: &[u8]) -> io::Result<()> {
+    rt.write_all(name)
 }
 
-pub fn word(w: &[u8]) {
-    io::write_all(STDOUT_FILENO, b"\t");
-    io::write_all(STDOUT_FILENO, w);
+pub fn word(rt: &impl Print, w: &[u8]) -> io::Result<()> {
+    rt.write_all(b"\t")?;
+    rt.write_all(w)
 }
 
-pub fn named(w: &[u8], n: usize) {
-    word(w);
-    io::write_all(STDOUT_FILENO, b" ");
-    io::print_decimal(STDOUT_FILENO, n as u64);
+pub fn named(rt: &impl Print, w: &str, n: usize) -> io::Result<()> {
+    print!(rt; "\t{w} {n}")
 }
 
-pub fn told(w: &[u8], yes: bool) {
-    word(w);
+pub fn told(rt: &impl Print, w: &str, yes: bool) -> io::Result<()> {
     if yes {
-        io::write_all(STDOUT_FILENO, b" yes");
+        print!(rt; "\t{w} yes")
     } else {
-        io::write_all(STDOUT_FILENO, b" no");
+        print!(rt; "\t{w} no")
     }
 }
 
-pub fn end() {
-    io::write_all(STDOUT_FILENO, b"\n");
+pub fn end(rt: &impl Print) -> io::Result<()> {
+    println!(rt)
 }

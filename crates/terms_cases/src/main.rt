@@ -1,18 +1,15 @@
 // Reads fields with the agents add/2, S/1, Z/0, four/4, and prints each answer with the cells and names on the sheet.
 #![tactic(auto)]
+
 ghost use Rattle.std.specs.Prelude.{◌<◌};
 
 use parts::{CellNo, NameNo};
+use std::io;
 use terms::Field;
 use terms::sheet::Sheet;
 
-fn out(s: &[u8]) {
-    io::write_all(1, s);
-}
-
-fn number(n: u16) {
-    out(b" ");
-    io::print_decimal(1, n as u64);
+fn number(rt: &impl Print, n: u16) -> io::Result<()> {
+    print!(rt; " {n}")
 }
 
 fn agents() -> [u8; Sheet::AGENTS] {
@@ -34,111 +31,118 @@ fn agents() -> [u8; Sheet::AGENTS] {
 }
 
 // A cell's words: its symbol + 1, and the codes of its arguments.
-fn cell(sheet: &[u16; Sheet::SIZE], c: u16)
+fn cell(rt: &impl Print, sheet: &[u16; Sheet::SIZE], c: u16) -> io::Result<()>
     requires { c < 2048 }
 {
     if c < terms::sheet::cells(sheet) {
-        out(b" :");
-        number(terms::sheet::symbol_word(sheet, CellNo(c)));
-        number(terms::sheet::argument(sheet, CellNo(c), 0));
-        number(terms::sheet::argument(sheet, CellNo(c), 1));
-        number(terms::sheet::argument(sheet, CellNo(c), 2));
-        number(terms::sheet::argument(sheet, CellNo(c), 3));
+        print!(rt; " :")?;
+        number(rt, terms::sheet::symbol_word(sheet, CellNo(c)))?;
+        number(rt, terms::sheet::argument(sheet, CellNo(c), 0))?;
+        number(rt, terms::sheet::argument(sheet, CellNo(c), 1))?;
+        number(rt, terms::sheet::argument(sheet, CellNo(c), 2))?;
+        number(rt, terms::sheet::argument(sheet, CellNo(c), 3))?;
     }
+    Ok(())
 }
 
 // A name's place and length.
-fn name(sheet: &[u16; Sheet::SIZE], x: u16)
+fn name(rt: &impl Print, sheet: &[u16; Sheet::SIZE], x: u16) -> io::Result<()>
     requires { x < 2048 }
 {
     if x < terms::sheet::names(sheet) {
-        out(b" ,");
-        number(terms::sheet::place(sheet, NameNo(x)));
-        number(terms::sheet::long(sheet, NameNo(x)));
+        print!(rt; " ,")?;
+        number(rt, terms::sheet::place(sheet, NameNo(x)))?;
+        number(rt, terms::sheet::long(sheet, NameNo(x)))?;
     }
+    Ok(())
 }
 
 // Reads a field, and prints the answer, the counts, four cells and three names.
-fn show(text: &[u8], from: usize, to: usize, sheet: &mut [u16; Sheet::SIZE]) {
+fn show(
+    rt: &impl Print,
+    text: &[u8],
+    from: usize,
+    to: usize,
+    sheet: &mut [u16; Sheet::SIZE],
+) -> io::Result<()> {
     let a = agents();
     match terms::read_field(text, from, to, &a, sheet) {
-        Field::Wrong => out(b"wrong"),
-        Field::Code(code) => {
-            out(b"code");
-            number(code);
-        }
+        Field::Wrong => print!(rt; "wrong")?,
+        Field::Code(code) => print!(rt; "code {code}")?,
     }
-    number(terms::sheet::cells(sheet));
-    number(terms::sheet::names(sheet));
-    cell(sheet, 0);
-    cell(sheet, 1);
-    cell(sheet, 2);
-    cell(sheet, 3);
-    name(sheet, 0);
-    name(sheet, 1);
-    name(sheet, 2);
-    out(b"\n");
+    number(rt, terms::sheet::cells(sheet))?;
+    number(rt, terms::sheet::names(sheet))?;
+    cell(rt, sheet, 0)?;
+    cell(rt, sheet, 1)?;
+    cell(rt, sheet, 2)?;
+    cell(rt, sheet, 3)?;
+    name(rt, sheet, 0)?;
+    name(rt, sheet, 1)?;
+    name(rt, sheet, 2)?;
+    println!(rt)
 }
 
 // A text that is one field, on an empty sheet.
-fn case(text: &[u8]) {
+fn case(rt: &impl Print, text: &[u8]) -> io::Result<()> {
     let mut sheet = [0; Sheet::SIZE];
-    show(text, 0, text.len(), &mut sheet);
+    show(rt, text, 0, text.len(), &mut sheet)
 }
 
 // Two fields of one text on one sheet.
-fn fields(text: &[u8]) {
+fn fields(rt: &impl Print, text: &[u8]) -> io::Result<()> {
     let mut sheet = [0; Sheet::SIZE];
-    show(text, 0, 11, &mut sheet);
-    show(text, 12, 18, &mut sheet);
+    show(rt, text, 0, 11, &mut sheet)?;
+    show(rt, text, 12, 18, &mut sheet)
 }
 
 // A rule's right side: eight names stand before, the first spelled at place 0, the others not spelled.
-fn right(text: &[u8]) {
+fn right(rt: &impl Print, text: &[u8]) -> io::Result<()> {
     let mut sheet = [0; Sheet::SIZE];
     terms::sheet::enter_name(&mut sheet, NameNo(0), 0, 1);
     terms::sheet::set_names(&mut sheet, 8);
-    show(text, 2, text.len(), &mut sheet);
+    show(rt, text, 2, text.len(), &mut sheet)
 }
 
-fn main() {
+fn main(rt: HostRuntime) -> io::Result<()> {
     // a name
-    case(b"x");
+    case(&rt, b"x")?;
     // an agent without arguments
-    case(b"Z");
+    case(&rt, b"Z")?;
     // outer before inner, left before right
-    case(b"add(r,S(Z))");
+    case(&rt, b"add(r,S(Z))")?;
     // names by first occurrence
-    case(b"four(y,x,S(y),add(x,_z9))");
+    case(&rt, b"four(y,x,S(y),add(x,_z9))")?;
     // too few arguments
-    case(b"add(x)");
+    case(&rt, b"add(x)")?;
     // too many
-    case(b"S(x,y)");
+    case(&rt, b"S(x,y)")?;
     // brackets after a name
-    case(b"_x(y)");
+    case(&rt, b"_x(y)")?;
     // brackets after an agent of no arguments
-    case(b"Z(x)");
+    case(&rt, b"Z(x)")?;
     // none where one is wanted
-    case(b"S");
+    case(&rt, b"S")?;
     // an agent's spelling that goes on is a name
-    case(b"Sx");
+    case(&rt, b"Sx")?;
     // sixteen bytes, and seventeen
-    case(b"abcdefghijklmnop");
-    case(b"abcdefghijklmnopq");
+    case(&rt, b"abcdefghijklmnop")?;
+    case(&rt, b"abcdefghijklmnopq")?;
     // 64 levels, and 65
     case(
+        &rt,
         b"S(S(S(S(S(S(S(S(S(S(S(S(S(S(S(S(S(S(S(S(S(S(S(S(S(S(S(S(S(S(S(S(S(S(S(S(S(S(S(S(S(S(S(S(S(S(S(S(S(S(S(S(S(S(S(S(S(S(S(S(S(S(S(Z)))))))))))))))))))))))))))))))))))))))))))))))))))))))))))))))",
-    );
+    )?;
     case(
+        &rt,
         b"S(S(S(S(S(S(S(S(S(S(S(S(S(S(S(S(S(S(S(S(S(S(S(S(S(S(S(S(S(S(S(S(S(S(S(S(S(S(S(S(S(S(S(S(S(S(S(S(S(S(S(S(S(S(S(S(S(S(S(S(S(S(S(S(Z))))))))))))))))))))))))))))))))))))))))))))))))))))))))))))))))",
-    );
+    )?;
     // nothing, and what no term is
-    case(b"");
-    case(b"add(x,y");
-    case(b"x,y");
+    case(&rt, b"")?;
+    case(&rt, b"add(x,y")?;
+    case(&rt, b"x,y")?;
     // two fields of one text
-    fields(b"add(r,S(Z))\tS(r,x)\tS");
-    fields(b"add(r,S(Z))\tS(xyz)");
+    fields(&rt, b"add(r,S(Z))\tS(r,x)\tS")?;
+    fields(&rt, b"add(r,S(Z))\tS(xyz)")?;
     // after eight names
-    right(b"x\tadd(x,S(w))");
+    right(&rt, b"x\tadd(x,S(w))")
 }
