@@ -5,7 +5,7 @@ use mathlib.Core.List.{List}
 use native.Mathlib.Omega.{arith}
 use borrow.Author.Rules.{rules}
 use Rattle.scan.specs.Cutting.{next_line}
-use Rattle.scan.specs.Laws.Cutting.{ended_line_lem}
+use Rattle.scan.proofs.Beneath.Cutting.{ended_line_lem}
 use Rattle.scan.specs.declared.cutting.NextLine.{NextLine}
 use Rattle.scan.specs.declared.cutting.NextLine.TheVariants.{Ended}
 use Rattle.scan_cases.specs.Within.{Within}
