@@ -6,7 +6,7 @@ use native.Mathlib.Omega.{arith}
 use lib.ListN.{length}
 use Rattle.parts.specs.Limits.{text_max}
 use Rattle.scan.specs.Cutting.{next_line}
-use Rattle.scan.specs.Laws.Cutting.{ended_line_lem}
+use Rattle.scan.proofs.Beneath.Cutting.{ended_line_lem}
 use Rattle.scan.specs.declared.cutting.NextLine.{NextLine}
 use Rattle.scan.specs.declared.cutting.NextLine.TheVariants.{Ended}
 

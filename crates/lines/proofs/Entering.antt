@@ -22,7 +22,7 @@ use Rattle.terms.specs.Sheet.{Sheet, entered}
 use Rattle.terms.specs.Words.{entries}
 use Rattle.terms.specs.Reader.{Done, done}
 use Rattle.terms.specs.Meaning.{Holds, grown}
-use Rattle.terms.specs.Proofs.Numbers.{grown_longer}
+use Rattle.terms.proofs.Beneath.Numbers.{grown_longer}
 use Rattle.lines.specs.Names.{between, kept, room_for, new_after, new_by, word_by, Ready, Within, Entered}
 use Rattle.lines.specs.Laws.Names.{Taken, After, grown-done, word_after}
 use Rattle.lines.specs.Laws.Parts.{drop-take}

@@ -26,7 +26,7 @@ use Rattle.field_tests.specs.Sized.{big_at}
 use Rattle.field_tests.specs.Laws.Spelling.{right_spelled, wrong-spelled}
 use Rattle.field_tests.specs.Laws.Sizing.{big-exact}
 use Rattle.terms.specs.Words.{found}
-use Rattle.terms.specs.Proofs.Numbers.{found-agent, found_none}
+use Rattle.terms.proofs.Beneath.Numbers.{found-agent, found_none}
 use Rattle.terms.specs.declared.words.Found.{Found}
 use Rattle.lines.specs.Fields.{both_counts, too_big}
 use Rattle.lines.specs.Laws.Fields.{fields-drop, big-terms}

@@ -25,7 +25,7 @@ use Rattle.sound.specs.Lent.{under}
 use Rattle.kept.specs.Right.{Right}
 use Rattle.kept.specs.declared.Kept.{Kept}
 use Rattle.wiring.specs.Keeping.{Came}
-use Rattle.wiring.specs.Wires.{wires}
+use Rattle.wiring.proofs.Modelled.{wires}
 use Rattle.wiring.specs.Wiring.{loop_here, Ready, wired}
 use Rattle.machine.proofs.Sounds.{live_small, right_out, sides_live, Shown, as_is, turned_round, steps_by, pickable}
 use Rattle.machine.specs.Picked.{full_loop, Pickable, Linking, Steppable, Went}

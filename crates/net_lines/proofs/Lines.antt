@@ -18,7 +18,7 @@ use Rattle.texts.specs.RuleText.{terms_of}
 use Rattle.texts.proofs.Beneath.Tools.{never}
 use Rattle.scan.specs.Cutting.{tabs, field_start}
 use Rattle.scan.specs.Words.{words_in}
-use Rattle.scan.specs.Laws.Cutting.{count-cons, start_le}
+use Rattle.scan.proofs.Beneath.Cutting.{count-cons, start_le}
 use Rattle.table.specs.Lists.{tab}
 use Rattle.table.specs.Laws.Lists.{length-tab, tab_at}
 use Rattle.terms.specs.Sheet.{Sheet}

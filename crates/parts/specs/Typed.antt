@@ -1,8 +1,6 @@
 -- What the typed sides and equations of the code stand for.
 use Rattle.std.specs.Prelude.{◌≡◌, refl, ℕ}
-use Rattle.std.proofs.Common.{ap, ◌∙◌}
-use Rattle.parts.specs.Sides.{name, cell, Pair, ◌:=◌, code, side}
-use Rattle.parts.specs.Codes.{side-code, code-side}
+use Rattle.parts.specs.Sides.{name, cell, Pair, ◌:=◌, side}
 use Rattle.parts.specs.Sides as Plain
 use Rattle.parts.specs.declared.Side.{Side}
 use Rattle.parts.specs.declared.Side.TheVariants.{Name, Cell}
@@ -34,10 +32,3 @@ typed-plain (Cell c) = refl
 pub plain-typed : (s : Plain.Side) → plain (typed s) ≡ s
 plain-typed (name x) = refl
 plain-typed (cell c) = refl
-
--- Encoding and decoding undo each other, both ways.
-pub encoded_decoded : (n : ℕ) → code (plain (typed (side n))) ≡ n
-encoded_decoded n = ap code (plain-typed (side n)) ∙ code-side n
-
-pub decoded_encoded : (s : Side) → typed (side (code (plain s))) ≡ s
-decoded_encoded s = ap typed (side-code (plain s)) ∙ typed-plain s

@@ -3,7 +3,7 @@
 use Rattle.review.specs.Words.{ℕ, ◌≡◌, List, bytes, StepAnswer}
 use Rattle.review.specs.Examples.{text, rules, listing_net, Bench, ackermann_rules, ackermann_net}
 use Rattle.review.specs.Picks.{Calls, Premise}
-use Rattle.review.proofs.Beneath.{Computed.computed, Computed.ackermann, Made.pick_at, Made.answer_at, Made.state_at, Made.calls_on, Started.start_sound}
+use Rattle.review.proofs.Beneath.{Benched.computed, Benched.ackermann, Made.pick_at, Made.answer_at, Made.state_at, Made.calls_on, Started.start_sound}
 
 -- P1 to P10, to the byte.
 pub the_bench : Bench

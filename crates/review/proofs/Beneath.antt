@@ -1,4 +1,5 @@
 pub mod Arrays
+pub mod Benched
 pub mod Calls
 pub mod Collecting
 pub mod Computed

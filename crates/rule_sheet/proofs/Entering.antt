@@ -18,7 +18,7 @@ use Rattle.table.specs.Lists.{tab}
 use Rattle.table.specs.Laws.Lists.{tab-snoc}
 use Rattle.terms.specs.Sheet.{Sheet, entered, counted_names, stored}
 use Rattle.terms.specs.Meaning.{Holds}
-use Rattle.terms.specs.Proofs.Written.{cells-kept, entered-sized, entered-count, entered-symbols, entered-arguments, entered-named}
+use Rattle.terms.proofs.Beneath.Written.{cells-kept, entered-sized, entered-count, entered-symbols, entered-arguments, entered-named}
 use Rattle.rule_sheet.specs.Lefts.{next_place, next_sheet, firsts, Entered}
 
 -- One way or the other.

@@ -13,7 +13,7 @@ use Rattle.texts.specs.Books.{Agent, Rule, declared, takes, head_of, args_of, ri
 use Rattle.texts.specs.Coded.{symbol_of, template}
 use Rattle.scan.specs.Cutting.{field_start}
 use Rattle.scan.specs.Words.{words_in}
-use Rattle.scan.specs.Laws.Cutting.{start_le}
+use Rattle.scan.proofs.Beneath.Cutting.{start_le}
 use Rattle.table.specs.declared.Rule.{Rule as Coded}
 use Rattle.table.specs.Rule.{stands}
 use Rattle.terms.specs.Agents.{agents_of}
@@ -21,9 +21,9 @@ use Rattle.terms.specs.Layout.{sheet_size}
 use Rattle.terms.specs.Sheet.{Sheet, view}
 use Rattle.terms.specs.Words.{found}
 use Rattle.terms.specs.Meaning.{Holds}
-use Rattle.terms.specs.Main.{holds-nothing}
-use Rattle.terms.specs.Proofs.Numbers.{found-agent}
-use Rattle.terms.specs.Proofs.Heads.{found-small}
+use Rattle.terms.proofs.Main.{holds-nothing}
+use Rattle.terms.proofs.Beneath.Numbers.{found-agent}
+use Rattle.terms.proofs.Beneath.Heads.{found-small}
 use Rattle.terms.specs.declared.words.Found.{Found}
 use Rattle.line_terms.specs.Fields.{ran, fields_by}
 use Rattle.coding.specs.Made.{Makeable, Made}

@@ -2,3 +2,4 @@ pub mod Lines
 pub mod Goods
 pub mod Reading
 pub mod Whole
+pub mod Main

@@ -16,7 +16,7 @@ use Rattle.texts.specs.Good.{GoodBook}
 use Rattle.texts.proofs.Beneath.Splitting.{ended_line}
 use Rattle.texts.proofs.Beneath.Reading.{read-fine, read-fault}
 use Rattle.scan.specs.Cutting.{next_line}
-use Rattle.scan.specs.Laws.Cutting.{ended_line_lem, unended_line, no_line}
+use Rattle.scan.proofs.Beneath.Cutting.{ended_line_lem, unended_line, no_line}
 use Rattle.scan.specs.declared.cutting.NextLine.{NextLine}
 use Rattle.scan.specs.declared.cutting.NextLine.TheVariants.{Ended, Unended, Nothing}
 use Rattle.table.specs.Layout.{bytes_of, table_bytes}

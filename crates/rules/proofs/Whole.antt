@@ -16,7 +16,8 @@ use Rattle.texts.proofs.Beneath.Splitting.{ended_line}
 use Rattle.scan.specs.Places.{bad_at}
 use Rattle.scan.specs.Cutting.{next_line}
 use Rattle.scan.specs.Laws.Placing.{bad-fault}
-use Rattle.scan.specs.Laws.Cutting.{EndedAt, ended_line_lem, unended_line, no_line}
+use Rattle.scan.specs.Laws.Cutting.{EndedAt}
+use Rattle.scan.proofs.Beneath.Cutting.{ended_line_lem, unended_line, no_line}
 use Rattle.scan.specs.declared.cutting.NextLine.{NextLine}
 use Rattle.scan.specs.declared.cutting.NextLine.TheVariants.{Ended, Unended, Nothing}
 use Rattle.lines.specs.Fields.{counts_of}

@@ -1,4 +1,3 @@
 pub mod Answer
 pub mod Told
 pub mod Lines
-pub mod Main

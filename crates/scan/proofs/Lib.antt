@@ -4,3 +4,4 @@ mod Scans
 mod Cuts
 mod Compare
 mod Digits
+pub mod Beneath

@@ -1,3 +1,5 @@
 pub mod Parts
 pub mod Bytes
 pub mod Look
+pub mod Main
+pub mod Beneath

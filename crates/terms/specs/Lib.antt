@@ -4,5 +4,3 @@ pub mod Agents
 pub mod Words
 pub mod Reader
 pub mod Meaning
-pub mod Proofs
-pub mod Main

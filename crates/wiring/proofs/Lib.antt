@@ -1,2 +1,3 @@
 pub mod Wires
 pub mod Keeps
+pub mod Modelled

@@ -27,7 +27,7 @@ use Rattle.state.specs.declared.Pile.TheVariants.{Waits}
 use Rattle.kept.specs.Right.{Right}
 use Rattle.kept.specs.declared.Kept.{Kept}
 use Rattle.wiring.specs.Keeping.{Came}
-use Rattle.wiring.specs.Wires.{counts, wire_is}
+use Rattle.wiring.proofs.Modelled.{counts, wire_is}
 use Rattle.wiring.specs.Wiring.{pick, bound, bonds_end, Wirable, Countable, Ready, end_of, loosened, dropped, fastened, wired}
 
 -- the state meant, written otherwise

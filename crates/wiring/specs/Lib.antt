@@ -1,3 +1,2 @@
 pub mod Wiring
 pub mod Keeping
-pub mod Wires

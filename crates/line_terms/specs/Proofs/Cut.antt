@@ -17,9 +17,9 @@ use Rattle.texts.proofs.Beneath.Splitting.{fields-cons, fields_last}
 use Rattle.scan.specs.Places.{place, is}
 use Rattle.scan.specs.Cutting.{up_to}
 use Rattle.scan.specs.Laws.Placing.{place_le}
-use Rattle.scan.specs.Laws.Cutting.{cut-free, cut-mark, cut_all}
+use Rattle.scan.proofs.Beneath.Cutting.{cut-free, cut-mark, cut_all}
 use Rattle.terms.specs.Meaning.{Stops, Spells}
-use Rattle.terms.specs.Proofs.Spelt.{skip, skip_one}
+use Rattle.terms.proofs.Beneath.Spelt.{skip, skip_one}
 use Rattle.line_terms.specs.Fields.{field_end}
 use Rattle.line_terms.specs.Meaning.{Parted, Cut, Written}
 

@@ -13,7 +13,7 @@ use Rattle.texts.proofs.Beneath.Tools.{neither, any_append, keep_append}
 use Rattle.texts.proofs.Beneath.Linear.{words_append, cell-count}
 use Rattle.texts.proofs.Beneath.Loads.{cells-cons}
 use Rattle.terms.specs.Meaning.{grown, Room}
-use Rattle.terms.specs.Proofs.Numbers.{grown-append, grown_longer}
+use Rattle.terms.proofs.Beneath.Numbers.{grown-append, grown_longer}
 use Rattle.line_terms.specs.Meaning.{Roomy}
 
 module _ (t : Term) (ts : List Term) where

@@ -3,8 +3,8 @@ use Rattle.std.specs.Prelude.{ℕ, zero, suc, ◌+◌, ◌-◌, ◌<◌, ◌≤�
 use Rattle.std.proofs.Common.{sym, ap, ◌∙◌, append_assoc, sub-one, arith, length-drop, take-append-drop, drop_of_length-le, length-take-le, take_at, ltb-true, ltb-false}
 use Rattle.texts.specs.Bytes.{Word, on_field, fields}
 use Rattle.scan.specs.Cutting.{tabs, field_start}
-use Rattle.scan.specs.Laws.Cutting.{count-cons, start_le}
-use Rattle.terms.specs.Proofs.Spelt.{skip}
+use Rattle.scan.proofs.Beneath.Cutting.{count-cons, start_le}
+use Rattle.terms.proofs.Beneath.Spelt.{skip}
 use Rattle.line_terms.specs.Meaning.{Parted}
 use Rattle.line_terms.specs.Proofs.Cut.{line-length, standing, parted_none, parted_some}
 

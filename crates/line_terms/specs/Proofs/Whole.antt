@@ -18,8 +18,8 @@ use Rattle.model.specs.Table.{Cell}
 use Rattle.terms.specs.Sheet.{Sheet}
 use Rattle.terms.specs.Reader.{Done, done, field_by}
 use Rattle.terms.specs.Meaning.{number, side_at, term_cells, Holds, grown, Spells, Room}
-use Rattle.terms.specs.Main.{read_right, read-wrong}
-use Rattle.terms.specs.Proofs.Numbers.{grown_on}
+use Rattle.terms.proofs.Main.{read_right, read-wrong}
+use Rattle.terms.proofs.Beneath.Numbers.{grown_on}
 use Rattle.terms.specs.declared.Field.{Field}
 use Rattle.line_terms.specs.Fields.{field_end, Ran, ran, on_code, fields_by}
 use Rattle.line_terms.specs.Meaning.{Written, Roomy, Left, Read}

@@ -14,7 +14,7 @@ use Rattle.table.specs.Lists as Lists
 use Rattle.table.specs.Layout.{agents_at, agent_bytes, pair_bytes, bytes_of}
 use Rattle.table.specs.Laws.Whole.{FitAgents, agent_part, rule_part, length-agents}
 use Rattle.terms.specs.Agents.{agents_of, row_of, rows_of, lettered}
-use Rattle.terms.specs.Main.{listed}
+use Rattle.terms.proofs.Main.{listed}
 
 -- a symbol has no byte 0
 not_zero : (b : ℕ) → word_byte b ≡ true → not (eqb b 0) ≡ true

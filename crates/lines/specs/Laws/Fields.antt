@@ -14,7 +14,7 @@ use Rattle.texts.proofs.Beneath.Passes.{met_in, big_met, big_met_lem}
 use Rattle.texts.proofs.Beneath.Walk.{walk}
 use Rattle.scan.specs.Places.{place, is}
 use Rattle.scan.specs.Cutting.{up_to, tabs, field_start}
-use Rattle.scan.specs.Laws.Cutting.{cut-free, cut-mark, cut_all}
+use Rattle.scan.proofs.Beneath.Cutting.{cut-free, cut-mark, cut_all}
 use Rattle.scan.specs.Laws.Placing.{place_le}
 use Rattle.lines.specs.Fields.{too_big, fields_from}
 

@@ -16,8 +16,8 @@ use Rattle.terms.specs.Sheet.{Sheet, entered}
 use Rattle.terms.specs.Words.{entries}
 use Rattle.terms.specs.Reader.{Done, done}
 use Rattle.terms.specs.Meaning.{Holds, grown}
-use Rattle.terms.specs.Proofs.Numbers.{index_in, index_out, grown_longer}
-use Rattle.terms.specs.Proofs.Written.{cells-kept, entered-sized, entered-count, entered-symbols, entered-arguments, entered-named}
+use Rattle.terms.proofs.Beneath.Numbers.{index_in, index_out, grown_longer}
+use Rattle.terms.proofs.Beneath.Written.{cells-kept, entered-sized, entered-count, entered-symbols, entered-arguments, entered-named}
 use Rattle.lines.specs.Names.{between, kept, room_for, new_after, new_by, word_by}
 
 -- a sheet on which one name more is entered

@@ -17,7 +17,7 @@ use Rattle.texts.proofs.Beneath.Tools.{never, never', none_of}
 use Rattle.texts.proofs.Beneath.Linear.{cell-count}
 use Rattle.scan.specs.Cutting.{field_start}
 use Rattle.scan.specs.Words.{words_in}
-use Rattle.scan.specs.Laws.Cutting.{start_le}
+use Rattle.scan.proofs.Beneath.Cutting.{start_le}
 use Rattle.terms.specs.Sheet.{Sheet}
 use Rattle.terms.specs.Meaning.{number, grown, Stops}
 use Rattle.lines.specs.Names.{between, Within, Entered}

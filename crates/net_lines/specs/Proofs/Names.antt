@@ -9,8 +9,8 @@ use Rattle.texts.proofs.Beneath.Tools.{in_among}
 use Rattle.texts.proofs.Beneath.Places.{in_different}
 use Rattle.texts.proofs.Beneath.NetMeans.{names-append}
 use Rattle.terms.specs.Meaning.{grown}
-use Rattle.terms.specs.Main.{names-different}
-use Rattle.terms.specs.Proofs.Numbers.{grown-append, grown_on}
+use Rattle.terms.proofs.Main.{names-different}
+use Rattle.terms.proofs.Beneath.Numbers.{grown-append, grown_on}
 use Rattle.net_lines.specs.Draft.{named}
 
 pub named-append : (ags : List Agent) (ts us : List Term) → grown (named ags ts) (names_of ags us) ≡ named ags (ts ++ us)

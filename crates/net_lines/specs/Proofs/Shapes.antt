@@ -13,7 +13,7 @@ use Rattle.texts.specs.NetText.{face_fields, eq_fields}
 use Rattle.texts.proofs.Beneath.Splitting.{ended_line}
 use Rattle.scan.specs.Places.{bad_at}
 use Rattle.scan.specs.Laws.Placing.{bad-fault}
-use Rattle.scan.specs.Laws.Cutting.{count-cons}
+use Rattle.scan.proofs.Beneath.Cutting.{count-cons}
 use Rattle.net_lines.specs.Records.{passing, Spelt, Shaped}
 
 module _ (shape : List Word → Option (List Word)) (line : List ℕ) (b : ℕ) (eb : b ≡ bad_at line) where

@@ -30,7 +30,7 @@ use Rattle.terms.specs.Layout.{sheet_size}
 use Rattle.terms.specs.Sheet.{Sheet}
 use Rattle.terms.specs.Sheet as Sheets
 use Rattle.terms.specs.Meaning.{number, Holds}
-use Rattle.terms.specs.Main.{holds-nothing}
+use Rattle.terms.proofs.Main.{holds-nothing}
 use Rattle.loading.specs.OnSheet.{net_on, Lent, Ready}
 use Rattle.net_lines.specs.Draft.{named, Draft}
 use Rattle.net_lines.specs.Judging.{Fit}

@@ -17,7 +17,7 @@ use Rattle.texts.proofs.Beneath.Splitting.{ended_line}
 use Rattle.scan.specs.Places.{bad_at}
 use Rattle.scan.specs.Cutting.{next_line}
 use Rattle.scan.specs.Laws.Placing.{bad-fault}
-use Rattle.scan.specs.Laws.Cutting.{unended_line, no_line}
+use Rattle.scan.proofs.Beneath.Cutting.{unended_line, no_line}
 use Rattle.scan.specs.declared.cutting.NextLine.{NextLine}
 use Rattle.scan.specs.declared.cutting.NextLine.TheVariants.{Ended, Unended, Nothing}
 use Rattle.table.specs.Lists.{tab}

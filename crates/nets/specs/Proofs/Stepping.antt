@@ -14,7 +14,8 @@ use Rattle.texts.specs.NetText.{eq_line, net_lines}
 use Rattle.texts.proofs.Beneath.Splitting.{ended_line}
 use Rattle.scan.specs.Places.{place, is}
 use Rattle.scan.specs.Cutting.{up_to, next_line}
-use Rattle.scan.specs.Laws.Cutting.{cut-mark, EndedAt, ended_line_lem, unended_line, no_line}
+use Rattle.scan.specs.Laws.Cutting.{EndedAt}
+use Rattle.scan.proofs.Beneath.Cutting.{cut-mark, ended_line_lem, unended_line, no_line}
 use Rattle.scan.specs.declared.cutting.NextLine.{NextLine}
 use Rattle.scan.specs.declared.cutting.NextLine.TheVariants.{Ended, Unended, Nothing}
 use Rattle.table.specs.Lists.{tab}

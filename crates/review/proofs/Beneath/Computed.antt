@@ -22,7 +22,6 @@ use Rattle.report.specs.Numbers.{spelt, digits}
 use Rattle.report.specs.Firsts.{ended, stopped, refusal}
 use Rattle.evaluation.specs.Evaluated.{ending, running, net_printed, rules_printed, evaluated}
 use Rattle.review.specs.Examples.{text, rules, Comes, Bench, ackermann_rules, ackermann_net}
-use Rattle.review.specs.Picks.{Premise}
 use Rattle.review.proofs.Beneath.Shown.{of_net, of_texts, steps_from, came_of, came, run_shows}
 
 comes : {net : String} {i l s c : ℕ} {o : String} → evaluated (text rules) (bytes net) ≡ bytes o
@@ -31,7 +30,7 @@ comes {net} {i} {l} {s} {c} p q o =
     let k = run_shows (text rules) (bytes net) 100 (came_of i l s c 0) q refl in
     record { printed = p; premise = k.premise; cells_loaded = k.cells_loaded; by_head = k.by_head (ltb-true s 100 o); cells_at_end = k.cells_at_end }
 
-both : Bench × (came 0 (text ackermann_rules) (bytes ackermann_net) ≡ came_of 133 8 0 10 0)
+pub both : Bench × (came 0 (text ackermann_rules) (bytes ackermann_net) ≡ came_of 133 8 0 10 0)
 unfolding text of_net of_texts steps_from came any all keep same among times different index_of letter digit word_byte allowed on_line lines
     fault2 on_field fields is_number value number_of identifier symbol count nodes words_of nodes_at declared takes
     cells_of names_of sides pairs lefts rights head_of heads args_of left_args new_names_of net_terms add need ◌>>=◌
@@ -60,9 +59,3 @@ both = (
   },
   refl,
 )
-
-pub computed : Bench
-computed = both.0
-
-pub ackermann : Premise (text ackermann_rules) (bytes ackermann_net) 133
-ackermann = (run_shows (text ackermann_rules) (bytes ackermann_net) 0 (came_of 133 8 0 10 0) both.1 refl).premise

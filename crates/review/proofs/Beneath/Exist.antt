@@ -12,7 +12,7 @@ use Rattle.model.proofs.Kept.{step_sound, walk_sound}
 use Rattle.model.proofs.Stopped.{run_is_right}
 use Rattle.std.proofs.lemmas.List.Edits.{sets}
 use Rattle.state.specs.Layout.{state_size, view}
-use Rattle.state.specs.Whole.{whole}
+use Rattle.state.proofs.Whole.{whole}
 use Rattle.state.proofs.Counts.{view-zeros}
 use Rattle.sound.specs.Lent.{under}
 use Rattle.table.specs.Layout.{table_bytes}
@@ -21,7 +21,7 @@ use Rattle.lent.specs.Both.{BothSound, sound_table_lem, sound-state}
 use Rattle.lent.specs.Decided.{decided}
 use Rattle.rules.specs.declared.RulesAnswer.{RulesAnswer}
 use Rattle.rules.specs.declared.RulesAnswer.TheVariants as Rule
-use Rattle.rules.specs.Main as Rules
+use Rattle.rules.proofs.Main as Rules
 use Rattle.rules.specs.Answer.{refusal, leaves, leaves_by, rules_read}
 use Rattle.nets.specs.declared.NetAnswer.{NetAnswer}
 use Rattle.nets.specs.declared.NetAnswer.TheVariants as Net

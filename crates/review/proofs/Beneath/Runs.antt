@@ -22,7 +22,7 @@ use Rattle.answers.specs.Answer.{Answer}
 use Rattle.answers.specs.Text.{answer_text}
 use Rattle.answers.proofs.Main.{state-printed}
 use Rattle.rules.specs.declared.RulesAnswer.TheVariants as Rules
-use Rattle.rules.specs.Main as ReadRules
+use Rattle.rules.proofs.Main as ReadRules
 use Rattle.nets.specs.declared.NetAnswer.TheVariants as Nets
 use Rattle.nets.specs.Main as ReadNets
 use Rattle.machine.specs.Calls as Machine

@@ -25,7 +25,7 @@ use Rattle.sound.specs.Lent.{under}
 use Rattle.lent.specs.Both.{stands_for, under_is}
 use Rattle.rules.specs.declared.RulesAnswer.{RulesAnswer}
 use Rattle.rules.specs.declared.RulesAnswer.TheVariants as Rules
-use Rattle.rules.specs.Main as ReadRules
+use Rattle.rules.proofs.Main as ReadRules
 use Rattle.rules.specs.Answer.{refusal, leaves, leaves_by, rules_read}
 use Rattle.nets.specs.declared.NetAnswer.TheVariants as Net
 use Rattle.nets.specs.Answer.{filled}

@@ -9,7 +9,7 @@ use Rattle.state.specs.Layout.{view}
 use Rattle.table.specs.Layout.{agents_in, table_bytes}
 use Rattle.table.specs.Given.{Given}
 use Rattle.rules.specs.declared.RulesAnswer.TheVariants as Rules
-use Rattle.rules.specs.Main as ReadRules
+use Rattle.rules.proofs.Main as ReadRules
 use Rattle.nets.specs.Answer.{kept, sound_table, net_call}
 use Rattle.nets.specs.Proofs.Calls.{given-agents}
 use Rattle.nets.specs.declared.NetAnswer.{NetAnswer}

@@ -10,7 +10,7 @@ use Rattle.texts.proofs.Beneath.Tools.{never}
 use Rattle.texts.proofs.Beneath.Places.{keep_in}
 use Rattle.texts.proofs.Beneath.TermLists.{among-append}
 use Rattle.terms.specs.Meaning.{grown}
-use Rattle.terms.specs.Main.{names-different}
+use Rattle.terms.proofs.Main.{names-different}
 
 module _ (ws : List Word) where
   abbrev other : Word → Bool

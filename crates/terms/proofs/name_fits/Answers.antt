@@ -1,5 +1,5 @@
 -- `name_fits`: one law for each way out. Assumes nothing.
-use Rattle.terms.specs.Proofs.Heads.{fits-full, fits-far, fits-long}
+use Rattle.terms.proofs.Beneath.Heads.{fits-full, fits-far, fits-long}
 use borrow.Author.Rules.{rules}
 use Rattle.terms.proofs.name_fits.Goals as goal
 

@@ -1,5 +1,5 @@
 -- `read_cell`: one law for each way out. Assumes nothing.
-use Rattle.terms.specs.Proofs.Heads.{cell_full, cell-wide, cell-plain, cell-takes}
+use Rattle.terms.proofs.Beneath.Heads.{cell_full, cell-wide, cell-plain, cell-takes}
 use borrow.Author.Rules.{rules}
 use Rattle.terms.proofs.read_cell.Goals as goal
 

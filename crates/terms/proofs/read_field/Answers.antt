@@ -1,5 +1,5 @@
 -- `read_field`: one law for each way out. Assumes nothing.
-use Rattle.terms.specs.Proofs.Ways.{field-wrong, field-whole, field-part}
+use Rattle.terms.proofs.Beneath.Ways.{field-wrong, field-whole, field-part}
 use borrow.Author.Rules.{rules}
 use Rattle.terms.proofs.read_field.Goals as goal
 

@@ -1,5 +1,5 @@
 -- `read_head`: one law for each way out. Assumes nothing.
-use Rattle.terms.specs.Proofs.Heads.{head-name, head-cell, found-small}
+use Rattle.terms.proofs.Beneath.Heads.{head-name, head-cell, found-small}
 use borrow.Author.Rules.{rules}
 use Rattle.terms.proofs.read_head.Goals as goal
 

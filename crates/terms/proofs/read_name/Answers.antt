@@ -1,6 +1,6 @@
 -- `read_name`: one law for each way out. Assumes nothing.
 use native.Mathlib.Omega.{arith}
-use Rattle.terms.specs.Proofs.Heads.{fits-room, fits-place, fits-length, name-over, name_old, name_none, name_new}
+use Rattle.terms.proofs.Beneath.Heads.{fits-room, fits-place, fits-length, name-over, name_old, name_none, name_new}
 use borrow.Author.Rules.{rules}
 use Rattle.terms.proofs.read_name.Goals as goal
 

@@ -18,8 +18,8 @@ use Rattle.texts.specs.NetText.{loose, loose_line, net_lines}
 use Rattle.texts.proofs.Beneath.Tools.{any_append, same_eq}
 use Rattle.texts.proofs.Beneath.NetMeans.{names-append}
 use Rattle.terms.specs.Meaning.{grown}
-use Rattle.terms.specs.Main.{names-different}
-use Rattle.terms.specs.Proofs.Numbers.{grown-append, grown_on}
+use Rattle.terms.proofs.Main.{names-different}
+use Rattle.terms.proofs.Beneath.Numbers.{grown-append, grown_on}
 use Rattle.twice.specs.Counting.{first_loose, passed}
 use Rattle.twice.specs.Marks.{marks_from}
 

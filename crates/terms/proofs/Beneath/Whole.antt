@@ -16,10 +16,10 @@ use Rattle.texts.proofs.Beneath.Tools.{never, never', both, neither, any_append,
 use Rattle.terms.specs.Sheet.{Sheet}
 use Rattle.terms.specs.Reader.{Done, done, on_read, term_by, whole, field_by}
 use Rattle.terms.specs.Meaning.{number, side_at, term_cells, Holds, grown, Spells, Room}
-use Rattle.terms.specs.Proofs.Written.{cells-kept, cells-append, narrow-append}
-use Rattle.terms.specs.Proofs.Reads.{right, words, names, tally}
-use Rattle.terms.specs.Proofs.Trees.{named_by, cells_at, words-nodes, term-reads}
-use Rattle.terms.specs.Proofs.Only.{term-only}
+use Rattle.terms.proofs.Beneath.Written.{cells-kept, cells-append, narrow-append}
+use Rattle.terms.proofs.Beneath.Reads.{right, words, names, tally}
+use Rattle.terms.proofs.Beneath.Trees.{named_by, cells_at, words-nodes, term-reads}
+use Rattle.terms.proofs.Beneath.Only.{term-only}
 use Rattle.terms.specs.declared.Got.{Got}
 use Rattle.terms.specs.declared.Field.{Field}
 

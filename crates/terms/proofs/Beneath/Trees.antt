@@ -19,12 +19,12 @@ use Rattle.terms.specs.Sheet.{Sheet, argued, opened}
 use Rattle.terms.specs.Words.{found}
 use Rattle.terms.specs.Reader.{term_by}
 use Rattle.terms.specs.Meaning.{number, side_at, sides_within, term_cells, terms_cells, Sized, CellsAre, Narrow, Named, grown, Stops}
-use Rattle.terms.specs.Proofs.Numbers.{found-agent, takes_none, grown-append, grown_longer, grown_on}
-use Rattle.terms.specs.Proofs.Spelt.{skip, skip_one, here, stops-ends, comma_stops, close-stops, open_ends, identifier_some, word-ends, word_here, word-stops}
-use Rattle.terms.specs.Proofs.Written.{Same, cells-kept, cells-append, narrow-append, opened-sized, opened-count, opened-symbol, opened_before, opened-arguments, opened-named, argued-sized, argued-count, argued-symbols, argued_here, argued_other, argued-named}
-use Rattle.terms.specs.Proofs.Heads.{cell-plain, cell-takes, head-cell}
-use Rattle.terms.specs.Proofs.Ways.{args-close, args_comma, term-plain, term-args}
-use Rattle.terms.specs.Proofs.Reads.{right, words, words_in, names, tally, inner, Wrote, TermDone, ArgsDone, name-side, name-cells, name-names, name_tally, agent-side, agent-cells, agent-names, agent-tally, names-append, tally-append, name-head}
+use Rattle.terms.proofs.Beneath.Numbers.{found-agent, takes_none, grown-append, grown_longer, grown_on}
+use Rattle.terms.proofs.Beneath.Spelt.{skip, skip_one, here, stops-ends, comma_stops, close-stops, open_ends, identifier_some, word-ends, word_here, word-stops}
+use Rattle.terms.proofs.Beneath.Written.{Same, cells-kept, cells-append, narrow-append, opened-sized, opened-count, opened-symbol, opened_before, opened-arguments, opened-named, argued-sized, argued-count, argued-symbols, argued_here, argued_other, argued-named}
+use Rattle.terms.proofs.Beneath.Heads.{cell-plain, cell-takes, head-cell}
+use Rattle.terms.proofs.Beneath.Ways.{args-close, args_comma, term-plain, term-args}
+use Rattle.terms.proofs.Beneath.Reads.{right, words, words_in, names, tally, inner, Wrote, TermDone, ArgsDone, name-side, name-cells, name-names, name_tally, agent-side, agent-cells, agent-names, agent-tally, names-append, tally-append, name-head}
 use Rattle.terms.specs.declared.words.Found.{Found}
 
 -- a term is read, wherever it stands with room for it

@@ -18,10 +18,10 @@ use Rattle.terms.specs.Sheet.{Sheet, entered}
 use Rattle.terms.specs.Words.{entries}
 use Rattle.terms.specs.Reader.{done, fits, head_by, args_by, term_by}
 use Rattle.terms.specs.Meaning.{number, side_at, sides_within, term_cells, terms_cells, Sized, CellsAre, Narrow, Named, grown}
-use Rattle.terms.specs.Proofs.Numbers.{found_none, index_in, index_out, index_on, index_last, among_last}
-use Rattle.terms.specs.Proofs.Spelt.{word_here, word-inside}
-use Rattle.terms.specs.Proofs.Written.{Same, entered-sized, entered-count, entered-symbols, entered-arguments, entered-named}
-use Rattle.terms.specs.Proofs.Heads.{name_old, name_new, head-name}
+use Rattle.terms.proofs.Beneath.Numbers.{found_none, index_in, index_out, index_on, index_last, among_last}
+use Rattle.terms.proofs.Beneath.Spelt.{word_here, word-inside}
+use Rattle.terms.proofs.Beneath.Written.{Same, entered-sized, entered-count, entered-symbols, entered-arguments, entered-named}
+use Rattle.terms.proofs.Beneath.Heads.{name_old, name_new, head-name}
 use Rattle.terms.specs.declared.words.Found.{Found}
 use Rattle.terms.specs.declared.Got.{Got}
 use Rattle.terms.specs.declared.Head.{Head}

@@ -11,9 +11,9 @@ use Rattle.terms.specs.Layout.{cells_at, names_at, sheet_size}
 use Rattle.terms.specs.Sheet.{Sheet, view}
 use Rattle.terms.specs.Reader.{done, field_by}
 use Rattle.terms.specs.Meaning.{number, side_at, term_cells, Holds, grown, Spells, Room}
-use Rattle.terms.specs.Proofs.Rows as Rows
-use Rattle.terms.specs.Proofs.Views as Views
-use Rattle.terms.specs.Proofs.Whole as Whole
+use Rattle.terms.proofs.Beneath.Rows as Rows
+use Rattle.terms.proofs.Beneath.Views as Views
+use Rattle.terms.proofs.Beneath.Whole as Whole
 use Rattle.terms.specs.declared.Field.{Field}
 
 module _ (text : List ℕ) (ags : List Agent) (from to : ℕ) (s : Sheet) (t : Term) (f : Spells text from to t) where

@@ -13,7 +13,7 @@ use Rattle.model.specs.Table.{Cell}
 use Rattle.terms.specs.Sheet.{Sheet, stored, counted_cells, counted_names, argued, opened, entered}
 use Rattle.terms.specs.Words.{entry, entries}
 use Rattle.terms.specs.Meaning.{Sized, CellIs, CellsAre, Narrow, Named}
-use Rattle.terms.specs.Proofs.Numbers.{entries-kept, entries_more}
+use Rattle.terms.proofs.Beneath.Numbers.{entries-kept, entries_more}
 
 -- the words of two lists from a number up to another
 abbrev pub Same : List ℕ → List ℕ → ℕ → ℕ → Type 0

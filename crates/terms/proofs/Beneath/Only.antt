@@ -21,11 +21,11 @@ use Rattle.terms.specs.Sheet.{Sheet, argued, opened}
 use Rattle.scan.specs.Words.{word_end}
 use Rattle.terms.specs.Reader.{Done, done, name_by, taking, cell_by, found_by, head_by, on_read, last_arg, next_arg, args_by, after_head, with_head, term_by}
 use Rattle.terms.specs.Meaning.{Stops}
-use Rattle.terms.specs.Proofs.Numbers.{found-agent, found_none, takes_none}
-use Rattle.terms.specs.Proofs.Spelt.{skip, skip_one, here, Ends, stops-ends, open_ends, identifier_some, word-ends, word_here, word-stops}
-use Rattle.terms.specs.Proofs.Heads.{name-bare}
-use Rattle.terms.specs.Proofs.Reads.{inner}
-use Rattle.terms.specs.Proofs.Trees.{closing-stops}
+use Rattle.terms.proofs.Beneath.Numbers.{found-agent, found_none, takes_none}
+use Rattle.terms.proofs.Beneath.Spelt.{skip, skip_one, here, Ends, stops-ends, open_ends, identifier_some, word-ends, word_here, word-stops}
+use Rattle.terms.proofs.Beneath.Heads.{name-bare}
+use Rattle.terms.proofs.Beneath.Reads.{inner}
+use Rattle.terms.proofs.Beneath.Trees.{closing-stops}
 use Rattle.terms.specs.declared.Got.{Got}
 use Rattle.terms.specs.declared.Head.{Head}
 
