@@ -17,7 +17,6 @@ use Rattle.texts.specs.Bytes.{Word}
 use Rattle.texts.specs.Books.{word_face, word_eq}
 use Rattle.table.specs.Layout.{agents_in}
 use Rattle.state.specs.Layout.{view}
-use Rattle.state.specs.Places.{words}
 use Rattle.state.specs.declared.Part.TheVariants.{Stuck, Face}
 use Rattle.sound.specs.Lent.{under}
 use Rattle.lent.specs.Both.{BothSound, sound_table_lem, sound-state}

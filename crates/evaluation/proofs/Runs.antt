@@ -15,7 +15,7 @@ use Rattle.state.specs.Layout.{view}
 use Rattle.sound.specs.Lent.{under}
 use Rattle.lent.specs.Both.{BothSound, sound_table_lem, sound-state, table-given, both_of}
 use Rattle.lent.specs.Decided.{where_sound}
-use Rattle.machine.specs.Calls.{made, stopped, number, Out, out, run_told, stood, ran_out, run_called}
+use Rattle.machine.specs.Calls.{stopped, number, Out, out, run_told, stood, ran_out, run_called}
 use Rattle.machine.specs.declared.calls.RunAnswer.{RunAnswer}
 use Rattle.machine.specs.declared.calls.RunAnswer.TheVariants.{Ended, Paused, NoRoom, Unsound, TooMuch}
 use Rattle.answers.specs.Printer.{state_answer}

@@ -1,5 +1,5 @@
 -- Number 5 on one field by one flat pass: where the first identifier begins that is too long or too deep.
-use Rattle.std.specs.Prelude.{ℕ, suc, ◌+◌, ◌-◌, Bool, cond, ◌&&◌, ◌||◌, List, [], ◌∷◌, leb}
+use Rattle.std.specs.Prelude.{ℕ, ◌+◌, ◌-◌, Bool, cond, ◌&&◌, ◌||◌, List, [], ◌∷◌, leb}
 use Rattle.parts.specs.Limits.{identifier_max, level_max}
 use Rattle.texts.specs.Bytes.{word_byte}
 use Rattle.texts.proofs.Beneath.Walk.{depth}

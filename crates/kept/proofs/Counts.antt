@@ -1,15 +1,14 @@
 -- Why the counts fit, and what is right of them at the start.
-use mathlib.Core.Path.{◌≡◌, refl, ap, sym, ◌∙◌}
+use mathlib.Core.Path.{◌≡◌, ◌∙◌}
 use mathlib.Core.List.{List, [], ◌∷◌}
-use Prim.Native.Nat.{ℕ, zero, suc, ◌+◌, ◌<◌, ◌≤◌, min}
+use Prim.Native.Nat.{ℕ, ◌≤◌}
 use native.Mathlib.Omega.{arith}
-use lib.ListN.{length, get_or}
+use lib.ListN.{length}
 use Rattle.parts.specs.Limits.{cells_max, names_max}
 use Rattle.parts.specs.SegmentLaws.{seg-length}
 use Rattle.model.specs.State.{St, used}
 use Rattle.state.specs.Layout.{symbols_at, names_at, view}
 use Rattle.kept.specs.Right.{Right}
-use Rattle.kept.specs.declared.Kept.{Kept}
 
 few-used : (l : List ℕ) → used l ≤ length l
 few-used [] = omega arith

@@ -1,5 +1,5 @@
 -- All loops of the writer together: from the empty state they write the loaded one.
-use Prim.Native.Nat.{ℕ, zero, suc, ◌+◌, ◌*◌}
+use Prim.Native.Nat.{ℕ, suc, ◌+◌, ◌*◌}
 use mathlib.Core.Path.{◌≡◌, refl, sym, ap, ap₂, ◌∙◌}
 use mathlib.Core.List.{List, [], ◌∷◌, map}
 use native.Mathlib.Omega.{arith}
@@ -8,7 +8,7 @@ use lib.Seq.{sets}
 use Rattle.parts.specs.Limits.{arity_max}
 use Rattle.parts.specs.Sides.{Pair, code, side}
 use Rattle.model.specs.Table.{Cell}
-use Rattle.model.specs.State.{St, st, stack, with_cells, with_names, pushed_all, from, empty}
+use Rattle.model.specs.State.{St, st, stack, with_cells, pushed_all, from, empty}
 use Rattle.model.specs.Step.{write_symbols, write_arguments, set_bare, puts}
 use Rattle.model.specs.Load.{loaded}
 use Rattle.texts.specs.Books.{Agent}

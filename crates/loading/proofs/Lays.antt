@@ -1,34 +1,30 @@
 -- The loops of the writer: what each round leaves to be done.
 use Prim.Native.Nat.{ℕ, zero, suc, ◌+◌, ◌*◌, ◌/◌, ◌%◌, ◌-◌, ◌<◌, ◌≤◌, pred}
 use mathlib.Core.Path.{◌≡◌, refl, sym, ap, ap₂, ◌∙◌}
-use mathlib.Core.List.{List, [], ◌∷◌, map}
+use mathlib.Core.List.{List, ◌∷◌, map}
 use native.Mathlib.Omega.{arith}
-use lib.ListN.{length, get_or, drop, set, replicate}
-use lib.Seq.{sets, drop-cons, drop-length}
-use mir.Syntax.{w16}
-use mir.Val.{Fits}
-use Rattle.parts.specs.Limits.{arity_max, symbols_max, net_cells_max, net_names_max, net_equations_max, face_max, waiting_max}
-use Rattle.parts.specs.Sides.{Side, Pair, name, cell, ◌:=◌, code, side}
+use lib.ListN.{length, get_or, drop}
+use lib.Seq.{drop-cons, drop-length}
+use Rattle.parts.specs.Limits.{arity_max, net_cells_max, net_equations_max}
+use Rattle.parts.specs.Sides.{Pair, name, cell, ◌:=◌, code, side}
 use Rattle.parts.specs.Codes.{code-side}
 use Rattle.parts.specs.Typed.{pair, plain, number, typed, plain-typed}
 use Rattle.parts.specs.declared.Equation.{Equation}
 use Rattle.parts.specs.declared.Side as Typed
-use Rattle.model.specs.Table.{Cell, no_cell}
-use Rattle.model.specs.State.{St, st, stack, Stack, with_cells, with_names, with_waiting, pushed, pushed_all, from, empty}
-use Rattle.model.specs.Step.{write_symbols, write_arguments, set_bare, puts}
-use Rattle.model.specs.Load.{Net, loaded}
+use Rattle.model.specs.Table.{no_cell}
+use Rattle.model.specs.State.{St}
 use Rattle.texts.specs.Books.{Agent}
 use Rattle.texts.specs.Coded.{arity_at}
 use Rattle.table.specs.Layout.{agents_in}
 use Rattle.table.specs.Lists.{tab}
 use Rattle.table.specs.Laws.Lists.{length-tab, tab_at}
 use Rattle.terms.specs.Sheet.{Sheet}
-use Rattle.state.specs.Places.{size, words, with_words, stored, counted, part_of}
+use Rattle.state.specs.Places.{stored, counted}
 use Rattle.state.specs.Moves.{RoomOn, put_on}
 use Rattle.state.specs.declared.Part.{Part}
-use Rattle.state.specs.declared.Part.TheVariants.{Symbols, Arguments, Names, Face}
+use Rattle.state.specs.declared.Part.TheVariants.{Symbols, Arguments, Face}
 use Rattle.state.specs.declared.Pile.TheVariants.{Waits, Faces}
-use Rattle.loading.specs.OnSheet.{symbol_on, width_on, cell_on, cells_on, face_on, equation_on, equations_on, net_on, Lent, Ready}
+use Rattle.loading.specs.OnSheet.{symbol_on, width_on, cell_on, cells_on, equation_on, equations_on, Lent}
 use Rattle.loading.specs.Writing.{laid, cell_written, cells_from, Equated, faced, stacked}
 
 pub symbol_none : (s : Sheet) (c w : ℕ) → w ≡ get_or s.symbols c 0 → w ≡ 0 → 0 ≡ symbol_on s c

@@ -2,7 +2,7 @@
 use mathlib.Core.Path.{◌≡◌, refl, ap, ap₂, ◌∙◌}
 use mathlib.Core.Bool.{Bool, false}
 use mathlib.Core.List.{List}
-use Prim.Native.Nat.{ℕ, zero, suc, ◌+◌, ◌-◌, ◌*◌, ◌<◌, ◌≤◌, pred}
+use Prim.Native.Nat.{ℕ, ◌+◌, ◌-◌, ◌*◌, ◌<◌, ◌≤◌, pred}
 use native.Mathlib.Omega.{arith}
 use lib.Dec.{leb}
 use lib.ListN.{get_or}
@@ -12,8 +12,8 @@ use Rattle.parts.specs.Typed.{pair, number}
 use Rattle.parts.specs.declared.CellNo.{CellNo}
 use Rattle.parts.specs.declared.Equation.{Equation}
 use Rattle.parts.specs.declared.Side.TheVariants.{Cell}
-use Rattle.model.specs.State.{St, used}
-use Rattle.model.specs.Table.{Table, find}
+use Rattle.model.specs.State.{St}
+use Rattle.model.specs.Table.{find}
 use Rattle.model.specs.Step.{symbol_of, rule_of}
 use Rattle.state.specs.Moves.{out_of_waiting, put_on, RoomOn}
 use Rattle.state.specs.declared.Pile.TheVariants.{Stucks}

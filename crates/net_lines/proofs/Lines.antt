@@ -1,11 +1,11 @@
 -- The loops and the small tests of a line.
-use Prim.Native.Nat.{ℕ, zero, suc, ◌+◌, ◌-◌, ◌*◌, ◌<◌, ◌≤◌}
+use Prim.Native.Nat.{ℕ, suc, ◌+◌, ◌-◌, ◌*◌, ◌<◌, ◌≤◌}
 use mathlib.Core.Path.{◌≡◌, refl, sym, ap, ap₂, ◌∙◌}
-use mathlib.Core.Bool.{Bool, true, false, cond, not}
+use mathlib.Core.Bool.{Bool, true, false, cond}
 use mathlib.Core.List.{List, [], ◌∷◌}
 use native.Mathlib.Omega.{arith}
-use lib.Dec.{ltb, eqb}
-use lib.ListN.{length, get_or, set, drop, length-take}
+use lib.Dec.{ltb}
+use lib.ListN.{length, set, drop, length-take}
 use mir.Syntax.{w64}
 use mir.Val.{Fits}
 use lib.Seq.{sets, drop-cons, drop-length}
@@ -16,7 +16,7 @@ use Rattle.texts.specs.Books.{Agent, declared}
 use Rattle.texts.specs.Answers.{absent}
 use Rattle.texts.specs.RuleText.{terms_of}
 use Rattle.texts.proofs.Beneath.Tools.{never}
-use Rattle.scan.specs.Cutting.{tabs, field_start}
+use Rattle.scan.specs.Cutting.{field_start}
 use Rattle.scan.specs.Words.{words_in}
 use Rattle.scan.proofs.Beneath.Cutting.{count-cons, start_le}
 use Rattle.table.specs.Lists.{tab}

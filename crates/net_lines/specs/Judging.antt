@@ -1,5 +1,5 @@
 -- Numbers 5 and 7 on a line whose fields spell terms, after the terms of the lines before it.
-use Rattle.std.specs.Prelude.{ℕ, zero, suc, ◌+◌, ◌≤◌, ◌<◌, ◌≡◌, Bool, true, false, ◌||◌, List, ◌∷◌, ◌++◌, ltb, leb, length, drop}
+use Rattle.std.specs.Prelude.{ℕ, zero, suc, ◌≤◌, ◌<◌, ◌≡◌, Bool, true, ◌||◌, List, ◌∷◌, ◌++◌, ltb, leb, length, drop}
 use Rattle.std.proofs.Math.Option.{some}
 use Rattle.parts.specs.Limits.{text_max, arity_max, face_max, net_equations_max}
 use Rattle.texts.specs.Bytes.{all, fields}

@@ -1,7 +1,6 @@
 -- The two records of terms: what is wrong with a line before its terms are judged, and what it is once they are.
-use Rattle.std.specs.Prelude.{ℕ, suc, ◌≤◌, ◌<◌, ◌≡◌, List, [], ◌∷◌, ◌++◌, length, drop}
+use Rattle.std.specs.Prelude.{ℕ, suc, ◌≡◌, List, [], ◌∷◌, ◌++◌, length, drop}
 use Rattle.std.proofs.Math.Option.{Option, some}
-use Rattle.parts.specs.Limits.{face_max, net_equations_max}
 use Rattle.texts.specs.Bytes.{Word, fault2, fields}
 use Rattle.texts.specs.Terms.{Term}
 use Rattle.texts.specs.Books.{Agent, Net, net_terms}

@@ -24,7 +24,6 @@ use Rattle.table.specs.Put.{no_table}
 use Rattle.rules.specs.Told.{Told, yes, no}
 use Rattle.rule_lines.specs.Judged.{Judged, passed, failed}
 use Rattle.rules.specs.Lines.{Stands, LineJudged}
-use Rattle.rules.specs.declared.RulesAnswer.{RulesAnswer}
 use Rattle.rules.specs.declared.RulesAnswer.TheVariants.{Accepted, Refused}
 use Rattle.rules.proofs.Goods.{good-next, good_none}
 

@@ -14,7 +14,6 @@ use Rattle.scan.specs.Places.{place, is}
 use Rattle.scan.specs.Cutting.{up_to, next_line, tabs, field_start}
 use Rattle.scan.specs.Laws.Placing.{place_le}
 use Rattle.scan.proofs.Beneath.Cutting.{count-cons, start_le, field_cut}
-use Rattle.scan.specs.declared.cutting.NextLine.{NextLine}
 use Rattle.scan.specs.declared.cutting.NextLine.TheVariants.{Ended, Unended, Nothing}
 
 -- what `&l[k..]` holds

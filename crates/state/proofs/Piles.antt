@@ -1,5 +1,5 @@
 -- One law for each way out of the functions on the lists of a state, on cells and on free numbers.
-use Prim.Native.Nat.{ℕ, zero, suc, ◌+◌, ◌*◌, ◌-◌, ◌<◌, ◌≤◌}
+use Prim.Native.Nat.{ℕ, suc, ◌+◌, ◌*◌, ◌<◌, ◌≤◌}
 use mathlib.Core.Path.{◌≡◌, refl, ap, ap₂, sym, ◌∙◌}
 use mathlib.Core.List.{List, [], ◌∷◌}
 use native.Mathlib.Omega.{arith}
@@ -12,7 +12,6 @@ use Rattle.parts.specs.Sides.{◌:=◌, side, code}
 use Rattle.parts.specs.Typed.{plain, pair, plain-typed}
 use Rattle.parts.specs.Typed as Typed
 use Rattle.parts.specs.declared.Equation.{Equation}
-use Rattle.parts.specs.declared.Side.{Side}
 use Rattle.model.specs.State.{St, equation}
 use Rattle.state.specs.Places.{size, words, stored, pile, part_of, counted}
 use Rattle.state.specs.Moves.{put_on, RoomOn, freed, taken, free_from}

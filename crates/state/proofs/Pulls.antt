@@ -1,15 +1,15 @@
 -- Taking an equation out of those that wait: what each round of the loop does, and why the whole is `out_of_waiting`.
-use Prim.Native.Nat.{ℕ, zero, suc, ◌+◌, ◌*◌, ◌-◌, ◌<◌, ◌≤◌, pred}
+use Prim.Native.Nat.{ℕ, ◌+◌, ◌*◌, ◌-◌, ◌<◌, ◌≤◌, pred}
 use mathlib.Core.Path.{◌≡◌, refl, ap, ap₂, sym, ◌∙◌}
 use mathlib.Core.Bool.{Bool, true, false}
 use mathlib.Core.List.{List, [], ◌∷◌, ◌++◌}
 use native.Mathlib.Omega.{arith}
 use lib.Dec.{ltb}
-use lib.ListN.{length, get_or, take, drop, set, length-set, length-append, length-take, length-drop, get_or-append, get_or-eq_default}
+use lib.ListN.{length, get_or, take, drop, set, length-set, length-append, length-take, length-drop, get_or-append}
 use lib.Seq.{get_or-set_same, get_or-set_other, get_or-take, get_or-drop, get_or-append-add, ext_get_or}
 use borrow.Author.Tests.{ltb-true, ltb-false}
 use Rattle.parts.specs.Limits.{waiting_max}
-use Rattle.model.specs.State.{St, st, stack, pulled}
+use Rattle.model.specs.State.{St, stack, pulled}
 use Rattle.state.specs.Places.{stored, counted, with_words}
 use Rattle.state.specs.Moves.{Pullable, out_of_waiting, down, cut, with_pile}
 use Rattle.state.specs.declared.Part.TheVariants.{Waiting}

@@ -6,7 +6,6 @@ use Rattle.parts.specs.Typed.{number}
 use Rattle.parts.specs.declared.Equation.{Equation}
 use Rattle.model.specs.State.{St, Stack, stack, st, pushed, pulled}
 use Rattle.state.specs.Places.{size, stored, pile, part_of, counted}
-use Rattle.state.specs.declared.Part.{Part}
 use Rattle.state.specs.declared.Part.TheVariants.{Symbols, Arguments, Waiting}
 use Rattle.state.specs.declared.Pile.{Pile}
 use Rattle.state.specs.declared.Pile.TheVariants.{Waits, Stucks, Faces}

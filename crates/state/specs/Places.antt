@@ -1,5 +1,5 @@
 -- The arrays and lists of a state by their tags, so that one read and one write serve them all.
-use Rattle.std.specs.Prelude.{ℕ, ◌+◌, ◌*◌, List, get_or, set}
+use Rattle.std.specs.Prelude.{ℕ, ◌*◌, List, set}
 use Rattle.parts.specs.Limits.{arity_max, cells_max, names_max, waiting_max, stuck_max, face_max}
 use Rattle.model.specs.State.{St, Stack, stack, st}
 use Rattle.state.specs.Layout.{waits_at, stucks_at, faces_at, symbols_at, arguments_at, names_at, waiting_at, stuck_at, face_at}

@@ -1,5 +1,5 @@
 -- What the test of all rules finds, and of a whole table.
-use Prim.Native.Nat.{ℕ, zero, suc, ◌+◌, ◌<◌, ◌≤◌}
+use Prim.Native.Nat.{ℕ, ◌+◌, ◌<◌, ◌≤◌}
 use mathlib.Core.Path.{◌≡◌, refl, sym, ap, ◌∙◌}
 use mathlib.Core.Bool.{Bool, true, false, not, ◌&&◌}
 use mathlib.Core.List.{List, [], ◌∷◌, ◌++◌, append-nil, append_assoc}
@@ -12,7 +12,6 @@ use lib.Dec.{eqb, leb}
 use borrow.Author.Tests.{eq-eqb, eqb-true, le-leb, leb-true, not-true}
 use Rattle.parts.specs.Limits.{symbols_max, rules_max, rule_size, table_size}
 use Rattle.model.specs.Table.{Entry, none, find}
-use Rattle.model.specs.Table as Model
 use Rattle.texts.specs.Bytes.{any}
 use Rattle.texts.specs.Books.{Agent}
 use Rattle.texts.specs.Coded.{Table, table_of}

@@ -9,7 +9,6 @@ use lib.ListN.{get_or, take, drop}
 use borrow.Author.Tests.{eq-eqb, ne_eqb}
 use Rattle.parts.specs.Limits.{identifier_max, symbols_max, agent_size}
 use Rattle.texts.specs.Bytes.{Word, same, index_of}
-use Rattle.texts.specs.Books.{Agent}
 use Rattle.scan.specs.Places.{place, is}
 use Rattle.scan.specs.Cutting.{up_to}
 use Rattle.terms.specs.Agents.{spelling_at, agents_from, agents_of}

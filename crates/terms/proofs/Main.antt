@@ -1,6 +1,6 @@
 -- What the reader means: a field that spells a term is read as that term exactly where every identifier has as many arguments as it takes.
 use Rattle.std.specs.Prelude.{ℕ, ◌≡◌, true, false, List, [], ◌∷◌, ◌++◌, length, get_or}
-use Rattle.parts.specs.Sides.{Side, code}
+use Rattle.parts.specs.Sides.{code}
 use Rattle.texts.specs.Bytes.{Word, any, different}
 use Rattle.texts.specs.Terms.{Term, nodes}
 use Rattle.texts.specs.Books.{Agent, names_of}

@@ -2,7 +2,7 @@
 use Rattle.std.specs.Prelude.{ℕ, suc, ◌+◌, ◌-◌, ◌*◌, ◌<◌, ◌≤◌, ◌≡◌, true, false, cond, List, [], ◌∷◌, ◌++◌, length, get_or, take, drop, leb}
 use Rattle.std.proofs.Math.Option.{some}
 use Rattle.parts.specs.Limits.{text_max, arity_max, net_cells_max, net_names_max}
-use Rattle.parts.specs.Sides.{Side, name, cell, code}
+use Rattle.parts.specs.Sides.{Side, name, code}
 use Rattle.texts.specs.Bytes.{Word, any, all, among, index_of, word_byte}
 use Rattle.texts.specs.Terms.{Term, Terms, nodes}
 use Rattle.texts.specs.Reader.{term_of}

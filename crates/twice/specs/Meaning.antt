@@ -1,8 +1,8 @@
 -- The marks of a net's lines, and why the first loose name and the marks give the line of number 8.
-use Rattle.std.specs.Prelude.{ℕ, suc, ◌+◌, ◌<◌, ◌≡◌, Bool, cond, false, List, [], ◌∷◌, ◌++◌, length, ltb}
-use Rattle.std.proofs.Math.Option.{Option, none, some}
-use Rattle.texts.specs.Bytes.{Word, any, different}
-use Rattle.texts.specs.Terms.{Term, nodes}
+use Rattle.std.specs.Prelude.{ℕ, suc, ◌+◌, ◌<◌, ◌≡◌, Bool, cond, false, List, [], length, ltb}
+use Rattle.std.proofs.Math.Option.{none, some}
+use Rattle.texts.specs.Bytes.{any, different}
+use Rattle.texts.specs.Terms.{nodes}
 use Rattle.texts.specs.Books.{Agent, Net, names_of, net_terms}
 use Rattle.texts.specs.RuleText.{word_at, wrong_args}
 use Rattle.texts.specs.NetText.{loose, loose_line, net_lines}

@@ -1,5 +1,5 @@
 -- Wiring in the shape of the code is the wiring of the model.
-use Rattle.std.specs.Prelude.{◌≡◌, refl, false, ℕ, zero, suc, ◌+◌, ◌-◌, ◌<◌, ◌≤◌, ltb, get_or, set}
+use Rattle.std.specs.Prelude.{◌≡◌, refl, false, ℕ, suc, ◌+◌, ◌-◌, ◌<◌, ◌≤◌, ltb, get_or, set}
 use Rattle.std.proofs.Common.{ap, ap₂, sym, ◌∙◌, arith, le-ltb, eq-eqb, ne_eqb}
 use Rattle.std.proofs.Math.Decide.{ℕ_discrete, dec_lt}
 use Rattle.parts.specs.Limits.{loops_max}

@@ -10,7 +10,7 @@ use borrow.Author.Tests.{lt-ltb, le-ltb, eq-eqb, ne_eqb}
 use mir.Syntax.{w16, w32}
 use mir.Val.{Fits}
 use Rattle.parts.specs.Limits.{names_max, cells_max}
-use Rattle.parts.specs.Sides.{Pair, cell, code, side}
+use Rattle.parts.specs.Sides.{Pair, code, side}
 use Rattle.parts.specs.Codes.{code-side}
 use Rattle.parts.specs.Typed.{plain, pair, number, typed, plain-typed}
 use Rattle.parts.specs.declared.Equation.{Equation}

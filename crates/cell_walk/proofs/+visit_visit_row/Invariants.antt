@@ -1,14 +1,9 @@
 -- `cell_walk::visit` and `cell_walk::visit_row` meet their contracts. The measure is the cells not yet met.
-use Prim.Native.Nat.{ℕ, ◌+◌, ◌-◌, ◌*◌, ◌<◌}
-use native.Mathlib.Omega.{arith}
-use borrow.Author.Rules.{rules}
+use Prim.Native.Nat.{◌+◌, ◌-◌, ◌*◌}
 use Rattle.state.specs.Layout.{view}
 use Rattle.state.specs.Places.{words}
-use Rattle.sound.proofs.Places.{part_small}
 use Rattle.cell_walk.specs.Walks.{row, unmet}
-use Rattle.cell_walk.proofs.Steps.{Left, left_ready, left_more, left_stop, left_end}
-use Rattle.cell_walk.proofs.Cells.{visit_name, visit_barred, visit_into, ready-entered, entered-fits, entered-falls}
-use Rattle.cell_walk.proofs.Cells.{row_begin, row_cut, row-begins, row_gone, row-falls}
+use Rattle.cell_walk.proofs.Steps.{Left}
 use Rattle.cell_walk.proofs.+visit_visit_row.Given as goal
 
 abbrev pub decreases-visit : goal.decreases-visit

@@ -1,9 +1,5 @@
 -- `cell_walk::all_met` meets its contract.
-use Prim.Native.Nat.{◌-◌}
-use Rattle.parts.specs.Limits.{cells_max}
-use Rattle.sound.proofs.Every.{Passing, pass_start, pass_more, pass_end}
-use Rattle.cell_walk.specs.Walks.{met}
-use Rattle.state.specs.Layout.{view}
+use Rattle.sound.proofs.Every.{pass_start, pass_more, pass_end}
 use borrow.Author.Rules.{rules}
 use Rattle.cell_walk.proofs.all_met.Goals as goal
 

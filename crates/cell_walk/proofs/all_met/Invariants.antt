@@ -1,10 +1,9 @@
 -- `cell_walk::all_met` meets its contract.
 use Prim.Native.Nat.{◌-◌}
 use Rattle.parts.specs.Limits.{cells_max}
-use Rattle.sound.proofs.Every.{Passing, pass_start, pass_more, pass_end}
+use Rattle.sound.proofs.Every.{Passing}
 use Rattle.cell_walk.specs.Walks.{met}
 use Rattle.state.specs.Layout.{view}
-use borrow.Author.Rules.{rules}
 use Rattle.cell_walk.proofs.all_met.Given as goal
 
 abbrev pub invariant-loop-c : goal.invariant-loop-c

@@ -1,13 +1,11 @@
 -- `cell_walk::visit_bonds` meets its contract.
 use Prim.Native.Nat.{◌-◌}
 use lib.ListN.{drop}
-use borrow.Author.Rules.{rules}
 use Rattle.parts.specs.Limits.{names_max}
 use Rattle.model.specs.Reading.{bonds}
 use Rattle.model.specs.Test.{sides_of}
 use Rattle.state.specs.Layout.{view}
-use Rattle.cell_walk.proofs.Steps.{Left, left_all, left_ready, left_more, left_stop, left_end}
-use Rattle.cell_walk.proofs.Roots.{bonds-cut, bonds_begin, bonds_gone}
+use Rattle.cell_walk.proofs.Steps.{Left}
 use Rattle.cell_walk.proofs.visit_bonds.Given as goal
 
 abbrev pub invariant-loop-x : goal.invariant-loop-x

@@ -1,14 +1,10 @@
 -- `cell_walk::visit_pile` meets its contract.
 use Prim.Native.Nat.{◌≤◌}
-use native.Mathlib.Omega.{arith}
-use borrow.Author.Rules.{rules}
 use Rattle.model.specs.State.{unpack}
 use Rattle.model.specs.Test.{sides_of}
 use Rattle.state.specs.Layout.{view}
 use Rattle.state.specs.Places.{words}
-use Rattle.sound.proofs.Places.{part_small}
-use Rattle.cell_walk.proofs.Steps.{Left, left_all, left_ready, left_more, left_stop, left_end}
-use Rattle.cell_walk.proofs.Roots.{pile-cut, pile-begins, pile_gone}
+use Rattle.cell_walk.proofs.Steps.{Left}
 use Rattle.cell_walk.proofs.visit_pile.Given as goal
 
 abbrev pub invariant-loop-k : goal.invariant-loop-k

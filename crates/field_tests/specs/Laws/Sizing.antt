@@ -1,14 +1,14 @@
 -- What the place of number 5 means: it is below the length exactly where an identifier is too long or too deep.
-use Rattle.std.specs.Prelude.{ℕ, zero, suc, ◌+◌, ◌-◌, ◌≤◌, ◌<◌, ◌≡◌, refl, Bool, true, false, cond, ◌&&◌, ◌||◌, List, [], ◌∷◌, ◌++◌, length, eqb, ltb, leb}
-use Rattle.std.proofs.Common.{sym, ap, ◌∙◌, arith, zero-add, add-one, length-append, lt-ltb, le-ltb, leb-true, leb-false, ne_eqb}
+use Rattle.std.specs.Prelude.{ℕ, suc, ◌+◌, ◌-◌, ◌<◌, ◌≡◌, refl, Bool, true, false, cond, ◌&&◌, ◌||◌, List, [], ◌∷◌, ◌++◌, length, ltb, leb}
+use Rattle.std.proofs.Common.{sym, ap, ◌∙◌, arith, zero-add, add-one, length-append, lt-ltb, le-ltb, leb-true, ne_eqb}
 use Rattle.std.proofs.Math.Bool.{or-true}
 use Rattle.std.proofs.Math.Dec.{leb-suc-suc}
 use Rattle.parts.specs.Limits.{identifier_max, level_max}
 use Rattle.texts.specs.Bytes.{Word, any, letter, digit, word_byte}
 use Rattle.texts.specs.RuleText.{is_too_long}
-use Rattle.texts.proofs.Beneath.Walk.{Met, depth, met, walk}
+use Rattle.texts.proofs.Beneath.Walk.{depth, met, walk}
 use Rattle.texts.proofs.Beneath.Passes.{big_met}
-use Rattle.texts.proofs.Beneath.Tools.{never, never', any_append}
+use Rattle.texts.proofs.Beneath.Tools.{never', any_append}
 use Rattle.field_tests.specs.Sized.{passes, begun, big_from, big_at}
 
 -- word bytes are no brackets

@@ -1,6 +1,6 @@
 -- What the place of number 4 means: none for the spelling of a term; else the first byte that no term has there.
-use Rattle.std.specs.Prelude.{ℕ, zero, suc, ◌+◌, ◌≤◌, ◌<◌, ◌≡◌, refl, Bool, true, false, cond, not, ◌||◌, ◌↔◌, List, [], ◌∷◌, ◌++◌, length, take, replicate, eqb}
-use Rattle.std.proofs.Common.{sym, ap, ◌∙◌, append_assoc, arith}
+use Rattle.std.specs.Prelude.{ℕ, zero, suc, ◌≤◌, ◌<◌, ◌≡◌, refl, Bool, true, false, cond, not, ◌↔◌, List, [], ◌∷◌, ◌++◌, length, take}
+use Rattle.std.proofs.Common.{sym, ap, ◌∙◌, arith}
 use Rattle.std.proofs.Math.Option.{Option, none, some}
 use Rattle.texts.specs.Bytes.{letter, digit, word_byte}
 use Rattle.texts.specs.Terms.{Term}

@@ -1,11 +1,11 @@
 -- The fields from number k on are the fields of the part that begins with field k.
 use Rattle.std.specs.Prelude.{ℕ, zero, suc, ◌+◌, ◌-◌, ◌≤◌, ◌<◌, ◌≡◌, refl, Bool, true, false, cond, List, [], ◌∷◌, ◌++◌, eqb, leb, ltb, length, drop}
 use Rattle.std.proofs.Common.{sym, ap, ◌∙◌, arith, length-drop, drop-drop, length-take-le, le-leb, ltb-true, ltb-false}
-use Rattle.std.proofs.Math.Option.{none, some}
+use Rattle.std.proofs.Math.Option.{some}
 use Rattle.std.proofs.Math.Seq.{drop-append-add}
 use Rattle.std.proofs.lemmas.Bool.{lt-leb, not-true}
 use Rattle.texts.specs.Bytes.{Word, any, all, fields}
-use Rattle.texts.specs.Terms.{Term, spell, nodes}
+use Rattle.texts.specs.Terms.{Term, nodes}
 use Rattle.texts.specs.RuleText.{terms_of, big_node}
 use Rattle.texts.proofs.Beneath.Splitting.{free, fields-cons, fields_last}
 use Rattle.texts.proofs.Beneath.Tools.{both, any_append}

@@ -1,11 +1,5 @@
 -- `loading::write_arguments` meets its contract.
-use Prim.Native.Nat.{◌+◌, ◌*◌, ◌-◌}
-use lib.ListN.{get_or}
-use Rattle.parts.specs.Limits.{arity_max}
-use Rattle.state.specs.Layout.{view}
-use Rattle.state.specs.declared.Part.TheVariants.{Arguments}
-use Rattle.terms.specs.Sheet as Sheets
-use Rattle.loading.proofs.Lays.{Laying, lay_none, lay_more, lay_end}
+use Rattle.loading.proofs.Lays.{lay_none, lay_more, lay_end}
 use borrow.Author.Rules.{rules}
 use Rattle.loading.proofs.write_arguments.Goals as goal
 

@@ -5,8 +5,7 @@ use Rattle.parts.specs.Limits.{arity_max}
 use Rattle.state.specs.Layout.{view}
 use Rattle.state.specs.declared.Part.TheVariants.{Arguments}
 use Rattle.terms.specs.Sheet as Sheets
-use Rattle.loading.proofs.Lays.{Laying, lay_none, lay_more, lay_end}
-use borrow.Author.Rules.{rules}
+use Rattle.loading.proofs.Lays.{Laying}
 use Rattle.loading.proofs.write_arguments.Given as goal
 
 abbrev pub invariant-loop-k : goal.invariant-loop-k

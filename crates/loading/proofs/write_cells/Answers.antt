@@ -1,9 +1,5 @@
 -- `loading::write_cells` meets its contract.
-use Prim.Native.Nat.{◌-◌}
-use Rattle.state.specs.Layout.{view}
-use Rattle.table.specs.Layout.{agents_in}
-use Rattle.terms.specs.Sheet as Sheets
-use Rattle.loading.proofs.Lays.{Celling, cell_none, cell_more, cell-small, cell_end}
+use Rattle.loading.proofs.Lays.{cell_none, cell_more, cell-small, cell_end}
 use borrow.Author.Rules.{rules}
 use Rattle.loading.proofs.write_cells.Goals as goal
 

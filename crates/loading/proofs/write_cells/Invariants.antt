@@ -3,8 +3,7 @@ use Prim.Native.Nat.{◌-◌}
 use Rattle.state.specs.Layout.{view}
 use Rattle.table.specs.Layout.{agents_in}
 use Rattle.terms.specs.Sheet as Sheets
-use Rattle.loading.proofs.Lays.{Celling, cell_none, cell_more, cell-small, cell_end}
-use borrow.Author.Rules.{rules}
+use Rattle.loading.proofs.Lays.{Celling}
 use Rattle.loading.proofs.write_cells.Given as goal
 
 abbrev pub invariant-loop-c : goal.invariant-loop-c

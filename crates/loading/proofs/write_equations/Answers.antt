@@ -1,6 +1,5 @@
 -- `loading::write_equations` meets its contract.
-use Rattle.state.specs.Layout.{view}
-use Rattle.loading.proofs.Lays.{Stacking, stack_none, stack-room, stack_more, stack_end}
+use Rattle.loading.proofs.Lays.{stack_none, stack-room, stack_more, stack_end}
 use borrow.Author.Rules.{rules}
 use Rattle.loading.proofs.write_equations.Goals as goal
 

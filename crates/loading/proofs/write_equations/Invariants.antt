@@ -1,7 +1,6 @@
 -- `loading::write_equations` meets its contract.
 use Rattle.state.specs.Layout.{view}
-use Rattle.loading.proofs.Lays.{Stacking, stack_none, stack-room, stack_more, stack_end}
-use borrow.Author.Rules.{rules}
+use Rattle.loading.proofs.Lays.{Stacking}
 use Rattle.loading.proofs.write_equations.Given as goal
 
 abbrev pub invariant-loop-k : goal.invariant-loop-k

@@ -1,9 +1,5 @@
 -- `loading::write_face` meets its contract.
-use Prim.Native.Nat.{◌-◌}
-use lib.ListN.{get_or}
-use Rattle.state.specs.Layout.{view}
-use Rattle.state.specs.declared.Part.TheVariants.{Face}
-use Rattle.loading.proofs.Lays.{Laying, lay_none, lay_on, face_end}
+use Rattle.loading.proofs.Lays.{lay_none, lay_on, face_end}
 use borrow.Author.Rules.{rules}
 use Rattle.loading.proofs.write_face.Goals as goal
 

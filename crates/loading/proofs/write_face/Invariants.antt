@@ -3,8 +3,7 @@ use Prim.Native.Nat.{◌-◌}
 use lib.ListN.{get_or}
 use Rattle.state.specs.Layout.{view}
 use Rattle.state.specs.declared.Part.TheVariants.{Face}
-use Rattle.loading.proofs.Lays.{Laying, lay_none, lay_on, face_end}
-use borrow.Author.Rules.{rules}
+use Rattle.loading.proofs.Lays.{Laying}
 use Rattle.loading.proofs.write_face.Given as goal
 
 abbrev pub invariant-loop-i : goal.invariant-loop-i

@@ -1,8 +1,5 @@
 -- `loading::write_names` meets its contract.
-use Prim.Native.Nat.{◌-◌}
-use Rattle.state.specs.Layout.{view}
-use Rattle.state.specs.declared.Part.TheVariants.{Names}
-use Rattle.loading.proofs.Lays.{Laying, lay_none, lay_on, lay_end}
+use Rattle.loading.proofs.Lays.{lay_none, lay_on, lay_end}
 use borrow.Author.Rules.{rules}
 use Rattle.loading.proofs.write_names.Goals as goal
 

@@ -2,8 +2,7 @@
 use Prim.Native.Nat.{◌-◌}
 use Rattle.state.specs.Layout.{view}
 use Rattle.state.specs.declared.Part.TheVariants.{Names}
-use Rattle.loading.proofs.Lays.{Laying, lay_none, lay_on, lay_end}
-use borrow.Author.Rules.{rules}
+use Rattle.loading.proofs.Lays.{Laying}
 use Rattle.loading.proofs.write_names.Given as goal
 
 abbrev pub invariant-loop-x : goal.invariant-loop-x

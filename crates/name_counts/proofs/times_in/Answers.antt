@@ -1,10 +1,5 @@
 -- `name_counts::times_in` meets its contract.
-use Prim.Native.Nat.{◌-◌}
-use Rattle.model.specs.State.{from}
-use Rattle.name_counts.proofs.Sums.{Summing, sum_start, sum_more, ones_end}
-use Rattle.name_counts.specs.Totals.{mark}
-use Rattle.state.specs.Layout.{view}
-use Rattle.state.specs.Places.{words}
+use Rattle.name_counts.proofs.Sums.{sum_start, sum_more, ones_end}
 use borrow.Author.Rules.{rules}
 use Rattle.name_counts.proofs.times_in.Goals as goal
 

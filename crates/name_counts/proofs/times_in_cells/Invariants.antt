@@ -1,11 +1,10 @@
 -- `name_counts::times_in_cells` meets its contract.
 use Prim.Native.Nat.{◌-◌}
 use Rattle.parts.specs.Limits.{arity_max, cells_max}
-use Rattle.name_counts.proofs.Sums.{Summing, sum_start, sum_more, sum_end}
+use Rattle.name_counts.proofs.Sums.{Summing}
 use Rattle.sound.specs.Lent.{under}
 use Rattle.name_counts.specs.Totals.{inside}
 use Rattle.state.specs.Layout.{view}
-use borrow.Author.Rules.{rules}
 use Rattle.name_counts.proofs.times_in_cells.Given as goal
 
 abbrev pub invariant-loop-c : goal.invariant-loop-c

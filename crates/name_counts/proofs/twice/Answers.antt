@@ -1,11 +1,6 @@
 -- `name_counts::twice` meets its contract.
-use Prim.Native.Nat.{◌-◌}
-use Rattle.parts.specs.Limits.{names_max}
-use Rattle.sound.proofs.Every.{Passing, pass_start, pass_more}
+use Rattle.sound.proofs.Every.{pass_start, pass_more}
 use Rattle.name_counts.proofs.Counts.{twice_end}
-use Rattle.sound.specs.Lent.{under}
-use Rattle.name_counts.specs.Totals.{paired}
-use Rattle.state.specs.Layout.{view}
 use borrow.Author.Rules.{rules}
 use Rattle.name_counts.proofs.twice.Goals as goal
 

@@ -3,7 +3,7 @@ use Rattle.std.specs.Prelude.{ℕ, ◌+◌, ◌*◌, ◌≤◌, ◌≡◌, Bool,
 use Rattle.std.proofs.Math.Path.{refl, sym, ap, ap₂}
 use Rattle.std.proofs.Common.{subst, ◌∙◌, arith}
 use Rattle.std.proofs.Math.Bool.{true, false, not}
-use mathlib.Core.List.{List, [], ◌∷◌, ◌++◌, map, map-append, append_assoc}
+use mathlib.Core.List.{List, [], ◌++◌, map, map-append, append_assoc}
 use Rattle.std.proofs.Math.ListN.{length, get_or, length-append, length-map, length-take, get_or-append}
 use Rattle.std.proofs.Math.Seq.{sets, length-sets, take_at}
 use Rattle.std.proofs.lemmas.List.Edits.{sets-eq}
@@ -13,7 +13,7 @@ use Rattle.model.specs.Table.{Cell}
 use Rattle.texts.specs.Bytes.{Word, any, all}
 use Rattle.texts.specs.Terms.{Term, spell, nodes}
 use Rattle.texts.specs.Books.{Agent, cells_of, names_of}
-use Rattle.texts.specs.RuleText.{big_node, wrong_args, terms_of}
+use Rattle.texts.specs.RuleText.{big_node, wrong_args}
 use Rattle.texts.specs.Coded.{packed, codes, cells_from}
 use Rattle.texts.proofs.Beneath.Tools.{any_append, none_of}
 use Rattle.texts.proofs.Beneath.Means.{spell-terms}
@@ -25,10 +25,10 @@ use Rattle.table.specs.Laws.Lists.{tab_list}
 use Rattle.terms.specs.Sheet.{Sheet}
 use Rattle.terms.specs.Meaning.{number, Holds, grown}
 use Rattle.lines.specs.Names.{Within}
-use Rattle.line_terms.specs.Meaning.{Written, Roomy, Read}
+use Rattle.line_terms.specs.Meaning.{Written, Read}
 use Rattle.line_terms.specs.Main.{fields_read}
 use Rattle.net_lines.specs.Draft.{named, OnSheet, InCodes, Draft}
-use Rattle.net_lines.specs.Taking.{put, Took}
+use Rattle.net_lines.specs.Taking.{Took}
 use Rattle.net_lines.specs.Proofs.Names.{named-append, named_on, named_stays}
 use Rattle.net_lines.specs.Proofs.Codes.{codes-length, cells-both}
 

@@ -1,15 +1,15 @@
 -- Each way out of the judgement of a line's terms.
 use Rattle.std.specs.Prelude.{ℕ, suc, ◌+◌, ◌-◌, ◌*◌, ◌≤◌, ◌<◌, ◌≡◌, refl, Bool, true, false, cond, not, ◌||◌, ltb, leb, drop}
 use Rattle.std.proofs.Math.Path.{sym, ap}
-use Rattle.std.proofs.Common.{ap₂, subst, ◌∙◌, arith, length-append, length-take, ltb-false, leb-true, leb-false, lt-ltb, le-ltb}
+use Rattle.std.proofs.Common.{subst, ◌∙◌, arith, length-take, ltb-false, leb-true, leb-false, lt-ltb, le-ltb}
 use mathlib.Core.List.{List, [], ◌∷◌, ◌++◌}
 use Rattle.std.proofs.Math.Option.{some}
 use Rattle.std.proofs.Math.ListN.{length, length-drop}
 use Rattle.parts.specs.Limits.{net_cells_max, net_names_max, face_max, net_equations_max, rule_equations_max}
 use Rattle.texts.specs.Bytes.{Word, any, keep, fields, different}
-use Rattle.texts.specs.Terms.{Term, nodes, words_of}
+use Rattle.texts.specs.Terms.{Term, nodes}
 use Rattle.texts.specs.Books.{Agent, Net, declared, cells_of, names_of, net_terms}
-use Rattle.texts.specs.Answers.{fine, fault, refuse}
+use Rattle.texts.specs.Answers.{refuse}
 use Rattle.texts.specs.RuleText.{big_node, wrong_args, terms_of}
 use Rattle.texts.specs.NetText.{big_net, net_fault5, net_fault7, net_judged}
 use Rattle.texts.specs.Coded.{packed, cells_from}
@@ -26,7 +26,7 @@ use Rattle.lines.specs.Laws.Words.{part-cells}
 use Rattle.lines.specs.Laws.Parts.{rest_of, names-entered}
 use Rattle.line_terms.specs.Meaning.{Parted, Written}
 use Rattle.line_terms.specs.Main.{newline_stops}
-use Rattle.net_lines.specs.Draft.{named, Draft}
+use Rattle.net_lines.specs.Draft.{named}
 use Rattle.net_lines.specs.Taking.{Took, Numbered}
 use Rattle.net_lines.specs.Judging.{verdict, Asked, Judged}
 use Rattle.net_lines.specs.Proofs.Codes.{cells-both}

@@ -1,5 +1,5 @@
 -- Names by first occurrence, over terms and more terms.
-use Rattle.std.specs.Prelude.{ℕ, ◌≡◌, refl, true, cond, List, [], ◌∷◌, ◌++◌}
+use Rattle.std.specs.Prelude.{◌≡◌, refl, true, cond, List, [], ◌∷◌, ◌++◌}
 use Rattle.std.proofs.Common.{sym, ap, ◌∙◌}
 use mathlib.Core.List.Memᴰ
 use Rattle.texts.specs.Bytes.{Word, among, different, In}

@@ -1,20 +1,20 @@
 -- The tests of a line's shape.
-use Rattle.std.specs.Prelude.{ℕ, suc, ◌<◌, ◌≤◌, ◌≡◌, Bool, true, false, cond, List, [], ◌∷◌, length, get_or, drop}
+use Rattle.std.specs.Prelude.{ℕ, ◌<◌, ◌≤◌, ◌≡◌, Bool, true, false, cond, List, [], ◌∷◌, length, get_or, drop}
 use Rattle.std.proofs.Math.Path.{refl}
 use Rattle.std.proofs.Common.{sym, ap, ◌∙◌, arith}
 use Rattle.std.proofs.Math.Option.{Option, none, some}
 use borrow.Author.Tests.{lt-ltb, le-ltb}
 use Rattle.texts.specs.Bytes.{Word, same, fault2, fields}
 use Rattle.texts.specs.Terms.{Term}
-use Rattle.texts.specs.Books.{Net, word_face, word_eq}
-use Rattle.texts.specs.Answers.{OfLine, fault, absent, need, refuse}
+use Rattle.texts.specs.Books.{word_face, word_eq}
+use Rattle.texts.specs.Answers.{fault, absent, need, refuse}
 use Rattle.texts.specs.RuleText.{terms_of}
 use Rattle.texts.specs.NetText.{face_fields, eq_fields}
 use Rattle.texts.proofs.Beneath.Splitting.{ended_line}
 use Rattle.scan.specs.Places.{bad_at}
 use Rattle.scan.specs.Laws.Placing.{bad-fault}
 use Rattle.scan.proofs.Beneath.Cutting.{count-cons}
-use Rattle.net_lines.specs.Records.{passing, Spelt, Shaped}
+use Rattle.net_lines.specs.Records.{passing, Shaped}
 
 module _ (shape : List Word → Option (List Word)) (line : List ℕ) (b : ℕ) (eb : b ≡ bad_at line) where
   pub shape_2 : b < length line → Shaped shape line 2

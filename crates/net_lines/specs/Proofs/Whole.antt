@@ -1,13 +1,13 @@
 -- Each way out of a `face` line and of an `eq` line.
-use Rattle.std.specs.Prelude.{ℕ, zero, suc, ◌+◌, ◌*◌, ◌<◌, ◌≤◌, ◌≡◌, refl, Bool, true, false, ◌||◌, List, [], ◌∷◌, ◌++◌, map, ltb, length, drop}
-use Rattle.std.proofs.Common.{sym, ap, ap₂, subst, ◌∙◌, append-nil, append_assoc, arith, length-append, length-drop, lt-ltb, le-ltb}
+use Rattle.std.specs.Prelude.{ℕ, suc, ◌+◌, ◌*◌, ◌<◌, ◌≤◌, ◌≡◌, refl, Bool, true, false, ◌||◌, List, [], ◌∷◌, ◌++◌, ltb, length, drop}
+use Rattle.std.proofs.Common.{sym, ap, subst, ◌∙◌, append-nil, append_assoc, arith, length-append, length-drop, lt-ltb, le-ltb}
 use Rattle.std.proofs.lemmas.List.{map-append, length-map}
 use Rattle.std.proofs.Math.Option.{some}
 use Rattle.parts.specs.Limits.{face_max, net_equations_max}
-use Rattle.texts.specs.Bytes.{Word, fields}
+use Rattle.texts.specs.Bytes.{fields}
 use Rattle.texts.specs.Terms.{Term, spell}
 use Rattle.texts.specs.Books.{Agent, Equation, Net, pairs, sides, net_terms}
-use Rattle.texts.specs.Answers.{OfLine, fine, fault, need, refuse}
+use Rattle.texts.specs.Answers.{fault}
 use Rattle.texts.specs.RuleText.{terms_of}
 use Rattle.texts.specs.NetText.{face_fields, eq_fields, net_judged, face_net, more_net, face_line, eq_line, net_lines}
 use Rattle.texts.proofs.Beneath.Means.{spell-terms}
@@ -16,7 +16,7 @@ use Rattle.terms.specs.Sheet.{Sheet}
 use Rattle.lines.specs.Names.{between}
 use Rattle.net_lines.specs.Draft.{Draft}
 use Rattle.net_lines.specs.Judging.{verdict, Stands, Fit, Asked, Judged}
-use Rattle.net_lines.specs.Records.{passing, Spelt, Shaped, FaceRead, EqRead}
+use Rattle.net_lines.specs.Records.{passing, Shaped, FaceRead, EqRead}
 use Rattle.net_lines.specs.Proofs.Judges.{over-judged}
 
 verdict-bad : {A : Type 0} (r : ℕ) (a : A) → ¬ (r ≡ 0) → fault r ≡ verdict r a

@@ -1,7 +1,6 @@
 -- `nets::read_sound` meets its contract.
 use Rattle.state.specs.Layout.{view}
 use Rattle.nets.specs.Proofs.Calls.{given-sound, given-lent, given_same, starts_empty, call-refused, call-ready, call-filled}
-use borrow.Author.Rules.{rules}
 use Rattle.nets.proofs.read_sound.Goals as goal
 
 pub read_lines-r-requires : goal.read_lines-r-requires

@@ -1,19 +1,19 @@
 -- Each way out of the call, and what it begins with.
-use Rattle.std.specs.Prelude.{ℕ, zero, suc, ◌+◌, ◌*◌, ◌≤◌, ◌<◌, ◌≡◌, Bool, true, false, cond, ◌&&◌, ◌||◌, ◌↔◌, List, [], ◌∷◌, ◌++◌, leb, length, get_or}
+use Rattle.std.specs.Prelude.{ℕ, suc, ◌+◌, ◌*◌, ◌≤◌, ◌<◌, ◌≡◌, Bool, true, false, ◌&&◌, ◌||◌, ◌↔◌, List, [], ◌∷◌, leb, length, get_or}
 use Rattle.std.proofs.Math.Path.{refl, sym, ap, ap₂}
 use Rattle.std.proofs.Common.{subst, ◌∙◌, arith}
 use Rattle.std.proofs.Math.Dec.{ltb}
 use borrow.Author.Tests.{leb-true, lt-ltb, le-ltb, ltb-false}
-use Rattle.parts.specs.Limits.{text_max, identifier_max, arity_max, symbols_max, face_max, net_equations_max, net_cells_max, net_names_max}
+use Rattle.parts.specs.Limits.{text_max, identifier_max, arity_max, face_max, net_equations_max, net_cells_max, net_names_max}
 use Rattle.model.specs.State.{St, zeros}
 use Rattle.model.proofs.Beneath.Facts.{zeros-length, zero_at}
 use Rattle.model.specs.Load.{loaded}
-use Rattle.texts.specs.Bytes.{Word, any, all, keep, same, different, lines}
+use Rattle.texts.specs.Bytes.{any, all, keep, same, different, lines}
 use Rattle.texts.specs.Terms.{nodes, words_of}
-use Rattle.texts.specs.Books.{Agent, Book, Net, cells_of, names_of, net_terms}
-use Rattle.texts.specs.Answers.{OfText, accepted, refused}
+use Rattle.texts.specs.Books.{Agent, Book, cells_of, names_of, net_terms}
+use Rattle.texts.specs.Answers.{accepted}
 use Rattle.texts.specs.NetText.{big_net, net_of_lines, read_net, net_read}
-use Rattle.texts.specs.Coded.{Table, table_of, packed, codes, cells_from, cells_at, load, arity_at}
+use Rattle.texts.specs.Coded.{Table, table_of, packed, codes, cells_at, arity_at}
 use Rattle.texts.specs.Good.{GoodBook}
 use Rattle.texts.proofs.Main.{table-book, table_test, net-text-accepted}
 use Rattle.texts.specs.TableTest.{agent_ok, test_table}
@@ -29,17 +29,15 @@ use Rattle.terms.specs.Agents.{agents_of}
 use Rattle.terms.specs.Layout.{sheet_size}
 use Rattle.terms.specs.Sheet.{Sheet}
 use Rattle.terms.specs.Sheet as Sheets
-use Rattle.terms.specs.Meaning.{number, Holds}
+use Rattle.terms.specs.Meaning.{Holds}
 use Rattle.terms.proofs.Main.{holds-nothing}
 use Rattle.loading.specs.OnSheet.{net_on, Lent, Ready}
 use Rattle.net_lines.specs.Draft.{named, Draft}
-use Rattle.net_lines.specs.Judging.{Fit}
-use Rattle.nets.specs.Answer.{filled, kept, told, sound_table, call_by, net_call}
+use Rattle.nets.specs.Answer.{filled, kept, sound_table, call_by, net_call}
 use Rattle.nets.specs.Drafted.{Drafted}
 use Rattle.nets.specs.Reading.{outcome, Start, TextRead}
 use Rattle.nets.specs.Proofs.OnSheet.{net_on_lem, names_on}
 use Rattle.nets.specs.Proofs.Wholes.{cells-few}
-use Rattle.nets.specs.declared.NetAnswer.TheVariants.{Accepted, Refused}
 
 -- Tables.
 fits : (b : Book) → GoodBook b → FitTable (table_of b)

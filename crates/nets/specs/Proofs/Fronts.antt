@@ -1,16 +1,16 @@
 -- Each way out of the header and of the `face` line.
-use Rattle.std.specs.Prelude.{ℕ, zero, suc, ◌+◌, ◌-◌, ◌≤◌, ◌<◌, ◌≡◌, refl, Bool, true, false, take, drop, set}
+use Rattle.std.specs.Prelude.{ℕ, suc, ◌+◌, ◌-◌, ◌≤◌, ◌<◌, ◌≡◌, refl, false, take, drop, set}
 use Rattle.std.proofs.Math.Path.{sym, ap}
-use Rattle.std.proofs.Common.{ap₂, subst, ◌∙◌, arith}
+use Rattle.std.proofs.Common.{◌∙◌, arith}
 use mathlib.Core.List.{List, [], ◌∷◌, ◌++◌, map, append-nil}
 use Rattle.std.proofs.Math.Option.{Option, none, some}
 use Rattle.std.proofs.Math.ListN.{length, get_or, length-set}
 use Rattle.std.proofs.Math.Seq.{get_or-set_same}
 use borrow.Author.Tests.{lt-ltb, le-ltb}
 use Rattle.parts.specs.Limits.{face_max, net_equations_max}
-use Rattle.texts.specs.Bytes.{Line, lines, fault2, fields, different}
+use Rattle.texts.specs.Bytes.{lines, fault2, fields, different}
 use Rattle.texts.specs.Books.{Agent, Net, names_of, net_terms, sides, word_net}
-use Rattle.texts.specs.Answers.{OfLine, fine, fault, refused, need, refuse, after_line}
+use Rattle.texts.specs.Answers.{fine, need, refuse, after_line}
 use Rattle.texts.specs.RuleText.{Counts, header_of, header_line}
 use Rattle.texts.specs.NetText.{face_line, face_and_eqs, net_of_lines, net_lines}
 use Rattle.texts.proofs.Beneath.Splitting.{ended_line}
@@ -27,11 +27,11 @@ use Rattle.lines.specs.Fields.{counts_of}
 use Rattle.lines.specs.declared.Header.{Header}
 use Rattle.twice.specs.Marks.{marks_from}
 use Rattle.net_lines.specs.Draft.{Draft}
-use Rattle.net_lines.specs.Judging.{verdict, Stands, Fit}
+use Rattle.net_lines.specs.Judging.{Stands, Fit}
 use Rattle.net_lines.specs.Records.{FaceRead}
-use Rattle.nets.specs.Drafted.{marked, Drafted}
+use Rattle.nets.specs.Drafted.{marked}
 use Rattle.nets.specs.Heading.{Headed}
-use Rattle.nets.specs.Reading.{FirstRead, FaceHere, SecondRead, Within}
+use Rattle.nets.specs.Reading.{FirstRead, SecondRead, Within}
 use Rattle.nets.specs.Proofs.Stepping.{ended-stands, ended_here, verdict-fault, verdict-fine, unended}
 use Rattle.nets.specs.declared.front.First.{First}
 use Rattle.nets.specs.declared.front.First.TheVariants.{Wrong, Counted}

@@ -1,13 +1,13 @@
 -- The loop over the `eq` lines: what it has read, and what is left to read.
-use Prim.Native.Nat.{ℕ, zero, suc, ◌+◌, ◌≤◌, ◌<◌}
-use Rattle.std.specs.Prelude.{◌≡◌, refl, List, [], ◌∷◌, length, drop}
-use Rattle.std.proofs.Common.{sym, ap, ap₂, ◌∙◌}
+use Prim.Native.Nat.{ℕ, suc, ◌+◌, ◌≤◌, ◌<◌}
+use Rattle.std.specs.Prelude.{◌≡◌, refl, List, [], length, drop}
+use Rattle.std.proofs.Common.{sym, ap, ◌∙◌}
 use Rattle.std.proofs.Math.Path.{subst}
 use native.Mathlib.Omega.{arith}
 use Rattle.parts.specs.Limits.{net_equations_max}
 use Rattle.texts.specs.Bytes.{lines}
 use Rattle.texts.specs.Books.{Agent, Net}
-use Rattle.texts.specs.Answers.{OfText, accepted, refused, read_lines, after_line}
+use Rattle.texts.specs.Answers.{refused, read_lines, after_line}
 use Rattle.texts.specs.NetText.{eq_line}
 use Rattle.terms.specs.Sheet.{Sheet}
 use Rattle.net_lines.specs.Judging.{Fit}

@@ -1,18 +1,16 @@
 -- What stands on the sheet and in the codes of a draft is the net as the machine loads it.
-use Rattle.std.specs.Prelude.{ℕ, zero, suc, ◌+◌, ◌*◌, ◌≤◌, ◌<◌, pred, refl, true, false, eqb, ltb, get_or}
+use Rattle.std.specs.Prelude.{ℕ, suc, ◌+◌, ◌*◌, ◌<◌, pred, refl, true, eqb, ltb, get_or}
 use Rattle.std.proofs.Math.Path.{◌≡◌, sym, ap, ap₂}
 use Rattle.std.proofs.Common.{◌∙◌, get_or-take, get_or-append-add, eqb-true}
 use mathlib.Core.List.{List, [], ◌∷◌, ◌++◌, map, append-nil}
 use native.Mathlib.Omega.{arith}
 use Rattle.std.proofs.Math.ListN.{length, take, length-append, get_or-append}
-use Rattle.std.proofs.lemmas.List.{length-map}
 use Rattle.parts.specs.Limits.{arity_max}
 use Rattle.parts.specs.Sides.{Side, name, Pair, ◌:=◌, code, side}
 use Rattle.parts.specs.Codes.{side-code}
 use Rattle.model.specs.Table.{Cell, no_cell}
 use Rattle.model.specs.Load as Loading
 use Rattle.texts.specs.Bytes.{Word, all, different}
-use Rattle.texts.specs.Terms.{Term}
 use Rattle.texts.specs.Books.{Agent, Net, cells_of, names_of, sides, net_terms}
 use Rattle.texts.specs.Coded.{packed, twos, codes, cells_from, net_number, load, arity_at}
 use Rattle.texts.specs.TableTest.{cell_ok}
@@ -20,7 +18,7 @@ use Rattle.texts.proofs.Beneath.Tools.{both}
 use Rattle.texts.proofs.Beneath.TableSound.{all_cells_ok}
 use Rattle.texts.proofs.Beneath.Loads.{codes-append}
 use Rattle.table.specs.Lists.{tab}
-use Rattle.table.specs.Laws.Lists.{length-tab, tab_at, tab_list}
+use Rattle.table.specs.Laws.Lists.{tab_list}
 use Rattle.terms.specs.Sheet.{Sheet}
 use Rattle.terms.specs.Meaning.{number, CellIs, CellsAre, Holds}
 use Rattle.loading.specs.OnSheet.{symbol_on, width_on, cell_on, cells_on, face_on, equation_on, equations_on, net_on}

@@ -1,34 +1,32 @@
 -- One line of a net text after another: what the line cutter says of it, the marks, and each way out of a step.
-use Prim.Native.Nat.{ℕ, zero, suc, ◌+◌, ◌-◌, ◌≤◌, ◌<◌}
-use Rattle.std.specs.Prelude.{◌≡◌, refl, Bool, true, cond, not, ◌||◌, List, [], ◌∷◌, ◌++◌, leb, ltb, length, get_or, take}
-use Rattle.std.proofs.Common.{sym, ap₂, subst, ◌∙◌, arith, length-set, drop-drop, drop_at, length-take-le, get_or-set_same, get_or-set_other, ltb-true}
+use Prim.Native.Nat.{ℕ, suc, ◌+◌, ◌≤◌, ◌<◌}
+use Rattle.std.specs.Prelude.{◌≡◌, refl, Bool, true, cond, List, [], ◌∷◌, ◌++◌, leb, ltb, length, get_or, take}
+use Rattle.std.proofs.Common.{sym, ap₂, ◌∙◌, arith, length-set, drop-drop, drop_at, length-take-le, get_or-set_same, get_or-set_other, ltb-true}
 use Rattle.std.proofs.Math.Path.{ap}
 use Rattle.std.proofs.Math.Bool.{false}
 use Rattle.std.proofs.Math.ListN.{drop, set}
-use Rattle.parts.specs.Limits.{face_max, net_equations_max}
-use Rattle.texts.specs.Bytes.{Word, Line, any, allowed, lines, fault2, different}
+use Rattle.parts.specs.Limits.{net_equations_max}
+use Rattle.texts.specs.Bytes.{lines, fault2, different}
 use Rattle.texts.specs.Terms.{Term}
-use Rattle.texts.specs.Books.{Agent, Net, names_of, net_terms}
-use Rattle.texts.specs.Answers.{OfLine, fine, fault, refuse}
+use Rattle.texts.specs.Books.{Agent, Net, net_terms}
+use Rattle.texts.specs.Answers.{fine, fault, refuse}
 use Rattle.texts.specs.NetText.{eq_line, net_lines}
 use Rattle.texts.proofs.Beneath.Splitting.{ended_line}
 use Rattle.scan.specs.Places.{place, is}
 use Rattle.scan.specs.Cutting.{up_to, next_line}
-use Rattle.scan.specs.Laws.Cutting.{EndedAt}
 use Rattle.scan.proofs.Beneath.Cutting.{cut-mark, ended_line_lem, unended_line, no_line}
 use Rattle.scan.specs.declared.cutting.NextLine.{NextLine}
 use Rattle.scan.specs.declared.cutting.NextLine.TheVariants.{Ended, Unended, Nothing}
-use Rattle.table.specs.Lists.{tab}
 use Rattle.table.specs.Laws.Lists.{tab_cong, tab-snoc}
 use Rattle.terms.specs.Sheet.{Sheet}
 use Rattle.lines.specs.Names.{between}
 use Rattle.twice.specs.Marks.{marks_from}
 use Rattle.twice.specs.Proofs.Lines.{names_all, net-names, marks_more}
-use Rattle.net_lines.specs.Draft.{named, Draft}
+use Rattle.net_lines.specs.Draft.{Draft}
 use Rattle.net_lines.specs.Judging.{verdict, Stands, Fit}
 use Rattle.net_lines.specs.Records.{EqRead}
 use Rattle.nets.specs.Drafted.{marked, Drafted}
-use Rattle.nets.specs.Reading.{StepFault, StepNext, Stepped, Moved}
+use Rattle.nets.specs.Reading.{Stepped, Moved}
 use Rattle.nets.specs.declared.rest.EqStep.TheVariants.{Done, Fault, Next}
 
 -- A newline stands where an ended line ends.

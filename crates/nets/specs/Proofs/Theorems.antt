@@ -1,5 +1,5 @@
 -- Why the theorems about the call hold.
-use Rattle.std.specs.Prelude.{ℕ, ◌≤◌, ◌≡◌, refl, true, false, ◌↔◌, List, length}
+use Rattle.std.specs.Prelude.{ℕ, ◌≤◌, ◌≡◌, refl, false, ◌↔◌, List, length}
 use Rattle.std.proofs.Common.{sym, ◌∙◌, arith}
 use Rattle.std.proofs.Math.Path.{ap}
 use Rattle.parts.specs.Limits.{text_max}
@@ -8,7 +8,7 @@ use Rattle.model.specs.State.{St}
 use Rattle.model.specs.Load.{loaded}
 use Rattle.model.proofs.Kept as Kept
 use Rattle.model.specs.Sound as Machine
-use Rattle.texts.specs.Books.{Agent, Book, Net, print_net}
+use Rattle.texts.specs.Books.{Book, Net, print_net}
 use Rattle.texts.specs.Answers.{OfText, accepted, refused}
 use Rattle.texts.specs.NetText.{read_net, net_read}
 use Rattle.texts.specs.Refused.{NetRefused}
@@ -17,7 +17,6 @@ use Rattle.texts.specs.Meaning.{meant_net}
 use Rattle.texts.specs.Good.{GoodBook, GoodNet}
 use Rattle.texts.proofs.Main.{net-text-refused, net-text-accepted, net-loads, table-sound}
 use Rattle.table.specs.Layout.{agents_in, table_bytes}
-use Rattle.table.specs.Laws.Whole.{agents_back}
 use Rattle.table.specs.Given.{Given}
 use Rattle.nets.specs.Answer.{Call, filled, kept, told, sound_table, call_by, net_call}
 use Rattle.nets.specs.Proofs.Calls.{given-sound, given-agents}

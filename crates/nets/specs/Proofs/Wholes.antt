@@ -1,20 +1,19 @@
 -- Each way out of a whole text: after its lines number 11, then number 8.
-use Rattle.std.specs.Prelude.{ℕ, zero, suc, ◌+◌, ◌*◌, ◌≤◌, ◌<◌, ◌≡◌, Bool, ◌&&◌, length, drop}
+use Rattle.std.specs.Prelude.{ℕ, suc, ◌+◌, ◌*◌, ◌≤◌, ◌<◌, ◌≡◌, Bool, ◌&&◌, length, drop}
 use Rattle.std.proofs.Math.Path.{refl, sym, ap, ap₂, subst}
 use Rattle.std.proofs.Common.{◌∙◌, arith}
 use Rattle.std.proofs.Math.Bool.{true, false, cond}
-use mathlib.Core.List.{List, [], ◌∷◌, ◌++◌}
-use Rattle.std.proofs.Math.Option.{Option, none, some}
+use mathlib.Core.List.{List, [], ◌++◌}
+use Rattle.std.proofs.Math.Option.{none, some}
 use Rattle.std.proofs.Math.Dec.{ltb, eqb}
 use borrow.Author.Tests.{lt-ltb, le-ltb, eq-eqb, ne_eqb}
 use Rattle.parts.specs.Limits.{net_cells_max, face_max}
 use Rattle.texts.specs.Bytes.{lines, different}
-use Rattle.texts.specs.Books.{Agent, Net, cells_of, names_of, net_terms}
+use Rattle.texts.specs.Books.{Agent, Net, names_of, net_terms}
 use Rattle.texts.specs.Answers.{OfText, accepted, refused, read_lines, after}
 use Rattle.texts.specs.RuleText.{Counts}
 use Rattle.texts.specs.NetText.{eq_line, loose_line, net_lines, unless_loose, names_twice, net_counted, face_and_eqs, net_of_lines}
 use Rattle.texts.proofs.Beneath.Linear.{cell-count}
-use Rattle.table.specs.Lists.{tab}
 use Rattle.table.specs.Layout.{agents_in}
 use Rattle.terms.specs.Sheet.{Sheet}
 use Rattle.terms.specs.Meaning.{number}
@@ -22,7 +21,7 @@ use Rattle.loading.specs.OnSheet.{face_on}
 use Rattle.twice.specs.Counting.{loose_on, first_loose, passed}
 use Rattle.twice.specs.Marks.{marks_from}
 use Rattle.twice.specs.Meaning.{loose_is, loose_line_lem}
-use Rattle.net_lines.specs.Draft.{named, Draft}
+use Rattle.net_lines.specs.Draft.{named}
 use Rattle.net_lines.specs.Proofs.Whole.{net-length}
 use Rattle.nets.specs.Drafted.{marked, Drafted}
 use Rattle.nets.specs.Reading.{outcome, EqsRead, FirstRead, FaceHere, SecondRead, Within, Start, Begun, loose_at, TextRead}

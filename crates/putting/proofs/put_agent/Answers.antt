@@ -1,6 +1,5 @@
 -- `putting::put_agent` meets its contract.
 use Rattle.putting.proofs.Stores.{put_agent_way}
-use borrow.Author.Rules.{rules}
 use Rattle.putting.proofs.put_agent.Goals as goal
 
 pub returns : goal.returns

@@ -1,9 +1,6 @@
 -- `putting::rule_row` meets its contract.
 use borrow.Author.Rules.{rules}
-use Prim.Native.Nat.{◌-◌}
-use Rattle.parts.specs.Limits.{rule_size}
-use Rattle.table.specs.Layout.{agents_in, entry_of, rule_bytes}
-use Rattle.putting.proofs.Stores.{Filling, filling_none, filling_more, filling_done}
+use Rattle.putting.proofs.Stores.{filling_none, filling_more, filling_done}
 use Rattle.putting.proofs.rule_row.Goals as goal
 
 pub loop-p-init : goal.loop-p-init

@@ -1,5 +1,5 @@
 -- A run is determined: from one state, with one budget, picks 0 come to one stop.
-use Rattle.std.specs.Prelude.{length, ℕ, zero, suc, ◌+◌, ◌-◌, ◌≤◌, ◌<◌, ◌≡◌, refl, List, ◌↔◌}
+use Rattle.std.specs.Prelude.{length, ℕ, ◌+◌, ◌-◌, ◌≤◌, ◌<◌, ◌≡◌, refl, List, ◌↔◌}
 use Rattle.std.proofs.Common.{length-append, sym, ap, ap₂, subst, ◌∙◌, arith}
 use Rattle.std.proofs.Math.Decide.{dec_lt}
 use Rattle.parts.specs.Limits.{budget_max}

@@ -1,5 +1,5 @@
 -- A sound state that is a net loaded, as `LoadedSo` says it, is the only one.
-use Rattle.std.specs.Prelude.{ℕ, zero, suc, ◌+◌, ◌*◌, ◌/◌, ◌%◌, ◌≤◌, ◌<◌, max, pred, ◌≡◌, Bool, true, false, cond, not, ◌⊎◌, length, get_or, take, drop}
+use Rattle.std.specs.Prelude.{ℕ, suc, ◌+◌, ◌*◌, ◌/◌, ◌%◌, ◌≤◌, ◌<◌, max, pred, ◌≡◌, Bool, true, false, cond, not, ◌⊎◌, length, get_or, take, drop}
 use Rattle.std.proofs.Math.Path.{refl, ap₂}
 use Rattle.std.proofs.Common.{sym, ap, subst, ◌∙◌, inl, inr, ⊎_elim, div-add-mod', mod-lt, arith, ext_get_or, get_or-take, get_or-drop, length-take-le}
 use mathlib.Core.List.Memᴰ

@@ -1,5 +1,5 @@
 -- A step read as a net, by the written rules.
-use Rattle.std.specs.Prelude.{ℕ, zero, suc, ◌≤◌, ◌≡◌, refl, List}
+use Rattle.std.specs.Prelude.{ℕ, ◌≤◌, ◌≡◌, refl, List}
 use Rattle.std.proofs.Common.{subst, inl, inr, arith}
 use Rattle.calculus.specs.Calculus.{Label, Step}
 use Rattle.calculus.specs.Calculus as Calculus

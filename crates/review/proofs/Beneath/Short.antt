@@ -1,5 +1,5 @@
 -- The lines of an answer are never longer than 65,536 bytes.
-use Prim.Native.Nat.{ℕ, zero, suc, ◌+◌, ◌*◌, ◌≤◌}
+use Prim.Native.Nat.{ℕ, suc, ◌+◌, ◌*◌, ◌≤◌}
 use Rattle.std.specs.Prelude.{◌≡◌, refl, length}
 use Rattle.std.proofs.Common.{ap, ◌∙◌}
 use mathlib.Core.List.{List, [], ◌∷◌, ◌++◌, map}

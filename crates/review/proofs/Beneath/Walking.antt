@@ -1,5 +1,5 @@
 -- Calls of step and run as a walk of the model, and when calls without end come to where nothing waits.
-use Rattle.std.specs.Prelude.{ℕ, zero, suc, ◌+◌, ◌<◌, ◌≡◌, List, [], ◌++◌, ◌⊎◌, length}
+use Rattle.std.specs.Prelude.{ℕ, suc, ◌+◌, ◌<◌, ◌≡◌, List, [], ◌++◌, ◌⊎◌, length}
 use Rattle.std.proofs.Math.Path.{refl}
 use Rattle.std.proofs.Common.{sym, ap, subst, inl, inr, length-append}
 use native.Mathlib.Omega.{arith}

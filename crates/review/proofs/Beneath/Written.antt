@@ -1,5 +1,5 @@
 -- The rules of the table of a good book are the written ones.
-use Rattle.std.specs.Prelude.{ℕ, zero, suc, ◌<◌, ◌≡◌, refl, List, [], ◌∷◌, ◌++◌, map, ◌↔◌, length}
+use Rattle.std.specs.Prelude.{ℕ, suc, ◌<◌, ◌≡◌, refl, List, [], ◌∷◌, ◌++◌, map, ◌↔◌, length}
 use Rattle.std.proofs.Common.{sym, ap₂, subst, ◌∙◌, inl, arith, length-append, ext_get_or}
 use Rattle.std.proofs.Math.Path.{ap}
 use mathlib.Core.List.Memᴰ

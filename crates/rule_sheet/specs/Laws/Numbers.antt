@@ -1,5 +1,5 @@
 -- The numbers of the names of a rule on a sheet that begins with the places of the left arguments.
-use Rattle.std.specs.Prelude.{ℕ, zero, suc, ◌+◌, ◌-◌, ◌≤◌, ◌≡◌, Bool, cond, length, get_or, replicate}
+use Rattle.std.specs.Prelude.{ℕ, ◌+◌, ◌≤◌, ◌≡◌, Bool, cond, length, get_or, replicate}
 use Rattle.std.proofs.Math.Path.{refl, sym, ap}
 use Rattle.std.proofs.Common.{ap₂, ◌∙◌, ⊎_elim, arith}
 use Rattle.std.proofs.Math.Bool.{true, false, not, ◌||◌}

@@ -1,5 +1,5 @@
 -- A left field where every identifier has as many arguments as it takes: it is an agent over names where its head alone is declared.
-use Prim.Native.Nat.{ℕ, suc, ◌+◌, ◌≤◌}
+use Prim.Native.Nat.{ℕ, suc, ◌≤◌}
 use Rattle.std.specs.Prelude.{◌≡◌, Bool, cond, not, ◌&&◌}
 use Rattle.std.proofs.Math.Path.{refl, sym, ap}
 use Rattle.std.proofs.Common.{◌∙◌}

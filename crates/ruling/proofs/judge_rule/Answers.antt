@@ -1,6 +1,5 @@
 -- `ruling::judge_rule` meets its contract.
 use Rattle.ruling.proofs.Judging.{judged_early, coded_asks, settle_asks, judged_last}
-use borrow.Author.Rules.{rules}
 use Rattle.ruling.proofs.judge_rule.Goals as goal
 
 pub returns-then-n-ne0 : goal.returns-then-n-ne0

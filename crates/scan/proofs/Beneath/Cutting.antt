@@ -1,6 +1,6 @@
 -- A line that is cut is the first of the lines, and a field that is cut the k-th of the fields.
 use Prim.Native.Nat.{ℕ, zero, suc, ◌+◌, ◌-◌, ◌≤◌, ◌<◌}
-use Rattle.std.specs.Prelude.{◌≡◌, Bool, cond, not, List, [], ◌∷◌, ◌++◌, length, take, drop, get_or, eqb}
+use Rattle.std.specs.Prelude.{◌≡◌, Bool, cond, List, [], ◌∷◌, ◌++◌, length, take, drop, get_or, eqb}
 use Rattle.std.proofs.Math.Path.{refl, ap}
 use Rattle.std.proofs.Common.{sym, ◌∙◌, sub-one, drop_of_length-le, take_all}
 use Rattle.std.proofs.Math.Bool.{true, false}
@@ -9,7 +9,7 @@ use Rattle.std.proofs.Math.ListN.{length-drop}
 use Rattle.std.proofs.Math.Seq.{drop-drop}
 use Rattle.std.proofs.Math.Dec.{ltb, leb}
 use borrow.Author.Tests.{eqb-true, leb-true, leb-false, ltb-true, ltb-false}
-use Rattle.texts.specs.Bytes.{all, Line, lines, on_field, fields}
+use Rattle.texts.specs.Bytes.{all, lines, on_field, fields}
 use Rattle.texts.proofs.Beneath.Splitting.{free, ended_line, lines_cons, lines_last}
 use Rattle.scan.specs.Places.{place, is}
 use Rattle.scan.specs.Cutting.{up_to, next_line, tabs, field_start}

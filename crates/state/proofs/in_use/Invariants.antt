@@ -1,10 +1,8 @@
 -- `state::in_use` meets its contract.
 use Prim.Native.Nat.{◌-◌}
-use borrow.Author.Rules.{rules}
 use Rattle.state.specs.Layout.{view}
 use Rattle.state.specs.Places.{size, words}
-use Rattle.state.proofs.Laws.{words-length}
-use Rattle.state.proofs.Counts.{Counting, count_start, count_more, count_end}
+use Rattle.state.proofs.Counts.{Counting}
 use Rattle.state.proofs.in_use.Given as goal
 
 abbrev pub invariant-loop-i : goal.invariant-loop-i

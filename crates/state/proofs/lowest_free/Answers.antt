@@ -1,10 +1,7 @@
 -- `state::lowest_free` meets its contract. The loop passes only places that are taken.
-use Prim.Native.Nat.{◌-◌}
 use borrow.Author.Rules.{rules}
-use Rattle.state.specs.Layout.{view}
-use Rattle.state.specs.Places.{size, words}
 use Rattle.state.proofs.Laws.{words-length}
-use Rattle.state.proofs.Piles.{Looking, look_none, look_found, look_more, look_end}
+use Rattle.state.proofs.Piles.{look_none, look_found, look_more, look_end}
 use Rattle.state.proofs.lowest_free.Goals as goal
 
 pub loop-i-init : goal.loop-i-init

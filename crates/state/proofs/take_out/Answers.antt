@@ -1,7 +1,5 @@
 -- `state::take_out` meets its contract.
-use Prim.Native.Nat.{◌-◌}
-use Rattle.state.specs.Layout.{view}
-use Rattle.state.proofs.Pulls.{Pulling, pull_none, pull_more, pull_end, last_fits, next_fits}
+use Rattle.state.proofs.Pulls.{pull_none, pull_more, pull_end, last_fits, next_fits}
 use borrow.Author.Rules.{rules}
 use Rattle.state.proofs.take_out.Goals as goal
 

@@ -1,8 +1,7 @@
 -- `state::take_out` meets its contract.
 use Prim.Native.Nat.{◌-◌}
 use Rattle.state.specs.Layout.{view}
-use Rattle.state.proofs.Pulls.{Pulling, pull_none, pull_more, pull_end, last_fits, next_fits}
-use borrow.Author.Rules.{rules}
+use Rattle.state.proofs.Pulls.{Pulling}
 use Rattle.state.proofs.take_out.Given as goal
 
 abbrev pub invariant-loop-j : goal.invariant-loop-j

@@ -1,10 +1,6 @@
 -- `stuck_pairs::unruled` meets its contract.
-use Prim.Native.Nat.{◌-◌}
-use Rattle.sound.proofs.Every.{Passing, pass_start, pass_more}
+use Rattle.sound.proofs.Every.{pass_start, pass_more}
 use Rattle.stuck_pairs.proofs.Stuck.{held_end}
-use Rattle.stuck_pairs.specs.Pairs.{held}
-use Rattle.sound.specs.Lent.{under}
-use Rattle.state.specs.Layout.{view}
 use borrow.Author.Rules.{rules}
 use Rattle.stuck_pairs.proofs.unruled.Goals as goal
 

@@ -1,5 +1,5 @@
 -- Laws of lists by number: their lengths, what stands at a number, and one block or one row changed.
-use Prim.Native.Nat.{ℕ, zero, suc, ◌+◌, ◌*◌, ◌<◌, ◌≤◌}
+use Prim.Native.Nat.{ℕ, suc, ◌+◌, ◌*◌, ◌<◌, ◌≤◌}
 use Rattle.std.specs.Prelude.{◌≡◌, get_or, replicate}
 use Rattle.std.proofs.Math.Path.{refl, ap, ap₂}
 use Rattle.std.proofs.Common.{◌∙◌, ext_get_or, take_at}

@@ -1,5 +1,5 @@
 -- Loops that test number by number: what they have passed, and what their answer says of a whole list.
-use Rattle.std.specs.Prelude.{ℕ, zero, suc, ◌+◌, ◌<◌, ◌≤◌, ◌≡◌, refl, Bool, true, false, not, ◌&&◌, ◌||◌, List, [], ◌∷◌, ◌++◌}
+use Rattle.std.specs.Prelude.{ℕ, ◌+◌, ◌<◌, ◌≤◌, ◌≡◌, refl, Bool, true, false, not, ◌&&◌, ◌||◌, List, [], ◌∷◌, ◌++◌}
 use Rattle.std.proofs.Common.{sym, ap, ap₂, ◌∙◌, arith, below_none, below_more}
 use Rattle.std.proofs.Math.Decide.{ℕ_discrete}
 use Rattle.texts.specs.Bytes.{any, all}

@@ -1,5 +1,5 @@
 -- Each row of a table's bytes has its length, and stands for the agent, the cell or the rule that it was made of.
-use Rattle.std.specs.Prelude.{ℕ, zero, suc, ◌+◌, ◌*◌, ◌<◌, ◌≤◌, pred, refl, Bool, true, ◌&&◌, List, [], ◌∷◌, ◌++◌, map, get_or, take, ltb, leb}
+use Rattle.std.specs.Prelude.{ℕ, suc, ◌+◌, ◌*◌, ◌<◌, ◌≤◌, pred, refl, Bool, true, ◌&&◌, List, [], ◌∷◌, ◌++◌, map, get_or, take, ltb, leb}
 use Rattle.std.proofs.Math.Path.{◌≡◌, sym, ap, ap₂}
 use Rattle.std.proofs.Common.{◌∙◌, arith, length-append, take_at, get_or-append-add}
 use Rattle.std.proofs.Math.ListN.{length, get_or-map, get_or-append}

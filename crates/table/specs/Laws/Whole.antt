@@ -1,5 +1,5 @@
 -- The bytes of a table are as many as a lent table has, and stand for the table.
-use Rattle.std.specs.Prelude.{ℕ, zero, suc, ◌+◌, ◌*◌, ◌/◌, ◌%◌, ◌<◌, ◌≤◌, ◌≡◌, refl, true, not, ◌&&◌, List, [], ◌∷◌, ◌++◌, length, get_or, take, drop, replicate, leb}
+use Rattle.std.specs.Prelude.{ℕ, suc, ◌+◌, ◌*◌, ◌/◌, ◌%◌, ◌<◌, ◌≤◌, ◌≡◌, refl, true, not, ◌&&◌, List, [], ◌∷◌, ◌++◌, length, get_or, take, drop, replicate, leb}
 use Rattle.std.proofs.Common.{sym, ap, ap₂, ◌∙◌, arith, div-add-mod', mul-suc, length-append, length-drop, get_or-append-add, leb-true}
 use Rattle.std.proofs.lemmas.List.{replicate-append-replicate, take-append-le, drop-append-le}
 use Rattle.std.proofs.Math.ListN.{get_or-append}

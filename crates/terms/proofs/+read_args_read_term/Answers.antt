@@ -3,7 +3,6 @@ use Rattle.terms.proofs.Beneath.Ways.{at_word_end, args-wrong, args-close, args_
 use Rattle.terms.proofs.Beneath.Heads.{takes-small}
 use borrow.Author.Rules.{rules}
 use native.Mathlib.Omega.{arith}
-use Prim.Native.Nat.{ℕ, ◌<◌, ◌*◌, ◌+◌}
 use Rattle.terms.proofs.+read_args_read_term.Goals as goal
 
 pub read_args-returns-then-b-eq41 : goal.read_args-returns-then-b-eq41

@@ -1,9 +1,5 @@
 -- `read_term` and `read_args` meet their contracts: the measure falls with the levels left, and with the arguments left. Assumes nothing.
-use Rattle.terms.proofs.Beneath.Ways.{at_word_end, args-wrong, args-close, args_unclosed, args_comma, args-few, term_none, term-empty, term-wrong, term_bracket, term-plain, term-args, term-bare}
-use Rattle.terms.proofs.Beneath.Heads.{takes-small}
-use borrow.Author.Rules.{rules}
-use native.Mathlib.Omega.{arith}
-use Prim.Native.Nat.{ℕ, ◌<◌, ◌*◌, ◌+◌}
+use Prim.Native.Nat.{◌*◌, ◌+◌}
 use Rattle.terms.proofs.+read_args_read_term.Given as goal
 
 abbrev pub decreases-read_args : goal.decreases-read_args

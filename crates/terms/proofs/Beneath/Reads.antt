@@ -7,7 +7,7 @@ use native.Mathlib.Omega.{arith}
 use Rattle.std.proofs.Math.ListN.{length, length-append}
 use borrow.Author.Tests.{lt-ltb, le-leb}
 use Rattle.parts.specs.Limits.{text_max, identifier_max, arity_max, level_max, net_names_max}
-use Rattle.parts.specs.Sides.{Side, name, cell, code}
+use Rattle.parts.specs.Sides.{name, cell, code}
 use Rattle.texts.specs.Bytes.{Word, keep, among, index_of}
 use Rattle.texts.specs.Terms.{identifier, Term, Terms, term, nil, cons, spell, closing, Node, count}
 use Rattle.texts.specs.Books.{Agent, declared, takes}

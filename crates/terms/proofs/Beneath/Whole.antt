@@ -5,7 +5,7 @@ use Rattle.std.proofs.Common.{sym, ap, ◌∙◌, append-nil, append_assoc, arit
 use Rattle.std.proofs.Math.ListN.{length}
 use borrow.Author.Tests.{eq-eqb, ltb-false, leb-true, le-leb, not-false}
 use Rattle.parts.specs.Limits.{arity_max, level_max, identifier_max}
-use Rattle.parts.specs.Sides.{Side, code}
+use Rattle.parts.specs.Sides.{code}
 use Rattle.texts.specs.Bytes.{Word, any, all, keep, same, among, different}
 use Rattle.texts.specs.Terms.{Term, spell, worded, Node, nodes_at, nodes, words_of}
 use Rattle.texts.specs.Books.{Agent, takes, cells_of, names_of}

@@ -7,7 +7,6 @@ use native.Mathlib.Omega.{arith}
 use Rattle.std.proofs.Math.ListN.{length, length-set, length-append}
 use Rattle.std.proofs.Math.Seq.{get_or-set_same}
 use Rattle.parts.specs.Limits.{arity_max, net_cells_max, net_names_max}
-use Rattle.parts.specs.Sides.{Side}
 use Rattle.texts.specs.Bytes.{Word}
 use Rattle.model.specs.Table.{Cell}
 use Rattle.terms.specs.Sheet.{Sheet, stored, counted_cells, counted_names, argued, opened, entered}

@@ -1,8 +1,7 @@
 -- `turning::all_turn` meets its contract.
 use borrow.Author.Rules.{rules}
-use Prim.Native.Nat.{◌-◌}
-use Rattle.table.specs.Laws.Passing.{Passed, passed_none}
-use Rattle.turning.proofs.Turned.{Turning, turning_more, turning_not, turning_end}
+use Rattle.table.specs.Laws.Passing.{passed_none}
+use Rattle.turning.proofs.Turned.{turning_more, turning_not, turning_end}
 use Rattle.turning.proofs.all_turn.Goals as goal
 
 pub loop-i-init : goal.loop-i-init

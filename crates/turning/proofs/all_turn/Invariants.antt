@@ -1,8 +1,7 @@
 -- `turning::all_turn` meets its contract.
-use borrow.Author.Rules.{rules}
 use Prim.Native.Nat.{◌-◌}
-use Rattle.table.specs.Laws.Passing.{Passed, passed_none}
-use Rattle.turning.proofs.Turned.{Turning, turning_more, turning_not, turning_end}
+use Rattle.table.specs.Laws.Passing.{Passed}
+use Rattle.turning.proofs.Turned.{Turning}
 use Rattle.turning.proofs.all_turn.Given as goal
 
 abbrev pub invariant-loop-i : goal.invariant-loop-i

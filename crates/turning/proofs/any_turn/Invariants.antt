@@ -1,8 +1,7 @@
 -- `turning::any_turn` meets its contract.
-use borrow.Author.Rules.{rules}
 use Prim.Native.Nat.{◌-◌}
-use Rattle.table.specs.Laws.Passing.{Passed, passed_none}
-use Rattle.turning.proofs.Turned.{Turnless, turn_more, turn_hit, turn_end}
+use Rattle.table.specs.Laws.Passing.{Passed}
+use Rattle.turning.proofs.Turned.{Turnless}
 use Rattle.turning.proofs.any_turn.Given as goal
 
 abbrev pub invariant-loop-j : goal.invariant-loop-j

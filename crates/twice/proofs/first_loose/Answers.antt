@@ -1,9 +1,5 @@
 -- `twice::first_loose` meets its contract.
-use Prim.Native.Nat.{◌-◌}
-use Rattle.table.specs.Layout.{agents_in}
-use Rattle.terms.specs.Sheet.{view}
-use Rattle.twice.specs.Counting.{loose_on}
-use Rattle.twice.proofs.Counts.{Seeking, seek_start, seek_found, seek_more, seek_end}
+use Rattle.twice.proofs.Counts.{seek_start, seek_found, seek_more, seek_end}
 use borrow.Author.Rules.{rules}
 use Rattle.twice.proofs.first_loose.Goals as goal
 

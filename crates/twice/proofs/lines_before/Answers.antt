@@ -1,7 +1,5 @@
 -- `twice::lines_before` meets its contract.
-use Prim.Native.Nat.{◌-◌}
-use lib.ListN.{get_or}
-use Rattle.twice.proofs.Counts.{Passing, pass_start, pass_found, pass_more, pass_end}
+use Rattle.twice.proofs.Counts.{pass_start, pass_found, pass_more, pass_end}
 use borrow.Author.Rules.{rules}
 use Rattle.twice.proofs.lines_before.Goals as goal
 

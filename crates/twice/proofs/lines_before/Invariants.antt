@@ -1,8 +1,7 @@
 -- `twice::lines_before` meets its contract.
 use Prim.Native.Nat.{◌-◌}
 use lib.ListN.{get_or}
-use Rattle.twice.proofs.Counts.{Passing, pass_start, pass_found, pass_more, pass_end}
-use borrow.Author.Rules.{rules}
+use Rattle.twice.proofs.Counts.{Passing}
 use Rattle.twice.proofs.lines_before.Given as goal
 
 abbrev pub invariant-loop-i : goal.invariant-loop-i

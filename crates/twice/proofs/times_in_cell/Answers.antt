@@ -1,9 +1,5 @@
 -- `twice::times_in_cell` meets its contract.
-use Prim.Native.Nat.{◌+◌, ◌*◌, ◌-◌, ◌≤◌}
-use lib.ListN.{get_or}
-use Rattle.parts.specs.Limits.{arity_max}
-use Rattle.terms.specs.Sheet.{view}
-use Rattle.twice.proofs.Counts.{Tallying, tally_start, tally_more, args_end}
+use Rattle.twice.proofs.Counts.{tally_start, tally_more, args_end}
 use borrow.Author.Rules.{rules}
 use Rattle.twice.proofs.times_in_cell.Goals as goal
 

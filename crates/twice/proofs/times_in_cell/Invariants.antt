@@ -3,8 +3,7 @@ use Prim.Native.Nat.{◌+◌, ◌*◌, ◌-◌, ◌≤◌}
 use lib.ListN.{get_or}
 use Rattle.parts.specs.Limits.{arity_max}
 use Rattle.terms.specs.Sheet.{view}
-use Rattle.twice.proofs.Counts.{Tallying, tally_start, tally_more, args_end}
-use borrow.Author.Rules.{rules}
+use Rattle.twice.proofs.Counts.{Tallying}
 use Rattle.twice.proofs.times_in_cell.Given as goal
 
 abbrev pub invariant-loop-k : goal.invariant-loop-k

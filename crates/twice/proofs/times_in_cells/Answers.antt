@@ -1,8 +1,5 @@
 -- `twice::times_in_cells` meets its contract.
-use Prim.Native.Nat.{◌-◌}
-use Rattle.table.specs.Layout.{agents_in}
-use Rattle.terms.specs.Sheet.{view}
-use Rattle.twice.proofs.Counts.{Celled, cells_start, cells_more, cells_end, cell-fits, sum_fits}
+use Rattle.twice.proofs.Counts.{cells_start, cells_more, cells_end, cell-fits, sum_fits}
 use borrow.Author.Rules.{rules}
 use Rattle.twice.proofs.times_in_cells.Goals as goal
 

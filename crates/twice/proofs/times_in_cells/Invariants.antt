@@ -2,8 +2,7 @@
 use Prim.Native.Nat.{◌-◌}
 use Rattle.table.specs.Layout.{agents_in}
 use Rattle.terms.specs.Sheet.{view}
-use Rattle.twice.proofs.Counts.{Celled, cells_start, cells_more, cells_end, cell-fits, sum_fits}
-use borrow.Author.Rules.{rules}
+use Rattle.twice.proofs.Counts.{Celled}
 use Rattle.twice.proofs.times_in_cells.Given as goal
 
 abbrev pub invariant-loop-c : goal.invariant-loop-c

@@ -1,7 +1,5 @@
 -- `twice::times_in_codes` meets its contract.
-use Prim.Native.Nat.{◌-◌, ◌≤◌}
-use lib.ListN.{get_or}
-use Rattle.twice.proofs.Counts.{Tallying, tally_start, tally_more, codes_end}
+use Rattle.twice.proofs.Counts.{tally_start, tally_more, codes_end}
 use borrow.Author.Rules.{rules}
 use Rattle.twice.proofs.times_in_codes.Goals as goal
 

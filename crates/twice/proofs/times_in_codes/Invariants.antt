@@ -1,8 +1,7 @@
 -- `twice::times_in_codes` meets its contract.
 use Prim.Native.Nat.{◌-◌, ◌≤◌}
 use lib.ListN.{get_or}
-use Rattle.twice.proofs.Counts.{Tallying, tally_start, tally_more, codes_end}
-use borrow.Author.Rules.{rules}
+use Rattle.twice.proofs.Counts.{Tallying}
 use Rattle.twice.proofs.times_in_codes.Given as goal
 
 abbrev pub invariant-loop-i : goal.invariant-loop-i

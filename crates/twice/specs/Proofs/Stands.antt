@@ -1,6 +1,6 @@
 -- A name stands among the codes and the arguments as often as in the text.
-use Rattle.std.specs.Prelude.{ℕ, ◌+◌, ◌<◌, ◌≡◌, refl, false, List, length, eqb}
-use Rattle.std.proofs.Common.{sym, ◌∙◌, arith}
+use Rattle.std.specs.Prelude.{ℕ, ◌+◌, ◌<◌, ◌≡◌, false, List, length, eqb}
+use Rattle.std.proofs.Common.{◌∙◌, arith}
 use Rattle.std.proofs.Math.Path.{ap, ap₂}
 use Rattle.std.proofs.Math.Bool.{not}
 use Rattle.parts.specs.Sides.{name}
@@ -11,7 +11,7 @@ use Rattle.texts.specs.RuleText.{word_at, wrong_args}
 use Rattle.texts.specs.NetText.{loose}
 use Rattle.texts.specs.Coded.{packed, codes, cells_from, net_number}
 use Rattle.texts.specs.TableTest.{tally, same_side, args_all}
-use Rattle.texts.proofs.Beneath.Linear.{cell_tally, code-count}
+use Rattle.texts.proofs.Beneath.Linear.{code-count}
 use Rattle.texts.proofs.Beneath.Places.{index_all, different-distinct}
 use Rattle.texts.proofs.Beneath.Templates.{tally_ext, cell_none, name-cell, name-name}
 use Rattle.terms.specs.Sheet.{Sheet}

@@ -1,7 +1,6 @@
 -- `answer::lines::print_pairs` meets its contract. The measure is the pairs left.
 use borrow.Author.Rules.{rules}
 use Rattle.answer.proofs.Tails.{pairs_end, first_pair, first_there, rest-pairs, pairs_way}
-use Prim.Native.Nat.{ℕ, ◌<◌}
 use Rattle.answer.proofs.lines.+print_pairs.Goals as goal
 
 pub returns-then-n-eq0 : goal.returns-then-n-eq0

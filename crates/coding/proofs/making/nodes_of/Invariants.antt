@@ -1,10 +1,8 @@
 -- `coding::making::nodes_of` meets its contract: the loop's invariant is `Filled`.
-use borrow.Author.Rules.{rules}
 use Prim.Native.Nat.{◌-◌, ◌*◌}
 use Rattle.parts.specs.Limits.{rule_cells_max, node_size}
 use Rattle.terms.specs.Sheet.{view}
 use Rattle.coding.specs.Made.{Filled, node_bytes}
-use Rattle.coding.proofs.Made.{filled_none, filled_end, node_more, node_there}
 use Rattle.coding.proofs.making.nodes_of.Given as goal
 
 abbrev pub invariant-loop-p : goal.invariant-loop-p

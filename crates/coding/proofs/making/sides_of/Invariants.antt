@@ -1,9 +1,7 @@
 -- `coding::making::sides_of` meets its contract: the loop's invariant is `Filled`.
-use borrow.Author.Rules.{rules}
 use Prim.Native.Nat.{◌-◌, ◌*◌}
 use Rattle.parts.specs.Limits.{rule_equations_max}
 use Rattle.coding.specs.Made.{Filled, side_bytes}
-use Rattle.coding.proofs.Made.{filled_none, filled_end, side_more}
 use Rattle.coding.proofs.making.sides_of.Given as goal
 
 abbrev pub invariant-loop-i : goal.invariant-loop-i

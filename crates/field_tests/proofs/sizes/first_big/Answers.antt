@@ -1,8 +1,6 @@
 -- `field_tests::sizes::first_big` meets its contract: the loop's invariant is `Sought`.
-use Prim.Native.Nat.{◌-◌}
-use lib.ListN.{length}
 use borrow.Author.Rules.{rules}
-use Rattle.field_tests.proofs.Bounds.{Sought, sought_none, sought_more, sought_hit, sought_end}
+use Rattle.field_tests.proofs.Bounds.{sought_none, sought_more, sought_hit, sought_end}
 use Rattle.field_tests.proofs.sizes.first_big.Goals as goal
 
 pub loop-i-init : goal.loop-i-init

@@ -1,8 +1,7 @@
 -- `field_tests::sizes::first_big` meets its contract: the loop's invariant is `Sought`.
 use Prim.Native.Nat.{◌-◌}
 use lib.ListN.{length}
-use borrow.Author.Rules.{rules}
-use Rattle.field_tests.proofs.Bounds.{Sought, sought_none, sought_more, sought_hit, sought_end}
+use Rattle.field_tests.proofs.Bounds.{Sought}
 use Rattle.field_tests.proofs.sizes.first_big.Given as goal
 
 abbrev pub invariant-loop-i : goal.invariant-loop-i

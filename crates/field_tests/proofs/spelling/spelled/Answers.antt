@@ -1,8 +1,6 @@
 -- `field_tests::spelling::spelled` meets its contract: the loop's invariant is `Ran`.
-use Prim.Native.Nat.{◌-◌}
-use lib.ListN.{length}
 use borrow.Author.Rules.{rules}
-use Rattle.field_tests.proofs.Steps.{Ran, ran_none, ran_more, ran-wrong, ran_right, ran-short}
+use Rattle.field_tests.proofs.Steps.{ran_none, ran_more, ran-wrong, ran_right, ran-short}
 use Rattle.field_tests.proofs.spelling.spelled.Goals as goal
 
 pub loop-i-init : goal.loop-i-init

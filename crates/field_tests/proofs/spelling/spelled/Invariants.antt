@@ -1,8 +1,7 @@
 -- `field_tests::spelling::spelled` meets its contract: the loop's invariant is `Ran`.
 use Prim.Native.Nat.{◌-◌}
 use lib.ListN.{length}
-use borrow.Author.Rules.{rules}
-use Rattle.field_tests.proofs.Steps.{Ran, ran_none, ran_more, ran-wrong, ran_right, ran-short}
+use Rattle.field_tests.proofs.Steps.{Ran}
 use Rattle.field_tests.proofs.spelling.spelled.Given as goal
 
 abbrev pub invariant-loop-i : goal.invariant-loop-i

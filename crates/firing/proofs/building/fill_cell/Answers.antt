@@ -1,7 +1,5 @@
 -- `firing::building::fill_cell` meets its contract.
-use Rattle.firing.proofs.Builds.{Arguing, argue_none, argue_more, argue_end, argument_next, cell-fits, cell-small}
-use Rattle.state.specs.Layout.{view}
-use Prim.Native.Nat.{◌-◌}
+use Rattle.firing.proofs.Builds.{argue_none, argue_more, argue_end, argument_next, cell-fits, cell-small}
 use borrow.Author.Rules.{rules}
 use Rattle.firing.proofs.building.fill_cell.Goals as goal
 

@@ -1,8 +1,7 @@
 -- `firing::building::fill_cell` meets its contract.
-use Rattle.firing.proofs.Builds.{Arguing, argue_none, argue_more, argue_end, argument_next, cell-fits, cell-small}
+use Rattle.firing.proofs.Builds.{Arguing}
 use Rattle.state.specs.Layout.{view}
 use Prim.Native.Nat.{◌-◌}
-use borrow.Author.Rules.{rules}
 use Rattle.firing.proofs.building.fill_cell.Given as goal
 
 abbrev pub invariant-loop-j : goal.invariant-loop-j

@@ -1,8 +1,5 @@
 -- `firing::building::fill_cells` meets its contract.
-use Rattle.firing.proofs.Builds.{Filling, fill_none, fill_next, fill_more, fill_end}
-use Rattle.firing.specs.Built.{cells_of}
-use Rattle.state.specs.Layout.{view}
-use Prim.Native.Nat.{◌-◌}
+use Rattle.firing.proofs.Builds.{fill_none, fill_next, fill_more, fill_end}
 use borrow.Author.Rules.{rules}
 use Rattle.firing.proofs.building.fill_cells.Goals as goal
 

@@ -1,9 +1,8 @@
 -- `firing::building::fill_cells` meets its contract.
-use Rattle.firing.proofs.Builds.{Filling, fill_none, fill_next, fill_more, fill_end}
+use Rattle.firing.proofs.Builds.{Filling}
 use Rattle.firing.specs.Built.{cells_of}
 use Rattle.state.specs.Layout.{view}
 use Prim.Native.Nat.{◌-◌}
-use borrow.Author.Rules.{rules}
 use Rattle.firing.proofs.building.fill_cells.Given as goal
 
 abbrev pub invariant-loop-m : goal.invariant-loop-m

@@ -1,7 +1,5 @@
 -- `firing::building::put_equations` meets its contract.
-use Rattle.firing.proofs.Builds.{Putting, put_none, put_more, put_next, put_room, put_end}
-use Rattle.firing.specs.Built.{equations_of}
-use Rattle.state.specs.Layout.{view}
+use Rattle.firing.proofs.Builds.{put_none, put_more, put_next, put_room, put_end}
 use borrow.Author.Rules.{rules}
 use Rattle.firing.proofs.building.put_equations.Goals as goal
 

@@ -1,8 +1,7 @@
 -- `firing::building::put_equations` meets its contract.
-use Rattle.firing.proofs.Builds.{Putting, put_none, put_more, put_next, put_room, put_end}
+use Rattle.firing.proofs.Builds.{Putting}
 use Rattle.firing.specs.Built.{equations_of}
 use Rattle.state.specs.Layout.{view}
-use borrow.Author.Rules.{rules}
 use Rattle.firing.proofs.building.put_equations.Given as goal
 
 abbrev pub invariant-loop-j : goal.invariant-loop-j

@@ -1,12 +1,11 @@
 -- `firing::taking::take_cells` meets its contract.
-use Rattle.firing.proofs.Takes.{Taking, cells_none, cell_takeable, cell-small, cell_more, cells-state, cells-frame, cells-passed}
+use Rattle.firing.proofs.Takes.{Taking}
 use Rattle.firing.specs.Frames.{cells_at}
 use Rattle.firing.specs.Taken.{cell_code}
 use Rattle.firing.specs.Built.{cells_of, symbol_word}
 use Rattle.state.specs.Layout.{view}
 use Prim.Native.Nat.{◌-◌}
 use Rattle.state.specs.declared.Part.TheVariants.{Symbols}
-use borrow.Author.Rules.{rules}
 use Rattle.firing.proofs.taking.take_cells.Given as goal
 
 abbrev pub invariant-loop-m : goal.invariant-loop-m

@@ -1,12 +1,11 @@
 -- `firing::taking::take_names` meets its contract.
-use Rattle.firing.proofs.Takes.{Taking, names_none, name_takeable, name-small, name_more, names-state, names-frame, names-passed}
+use Rattle.firing.proofs.Takes.{Taking}
 use Rattle.firing.specs.Frames.{names_at}
 use Rattle.firing.specs.Taken.{name_code}
 use Rattle.firing.specs.Built.{names_of}
 use Rattle.state.specs.Layout.{view}
 use Prim.Native.Nat.{◌-◌}
 use Rattle.state.specs.declared.Part.TheVariants.{Names}
-use borrow.Author.Rules.{rules}
 use Rattle.firing.proofs.taking.take_names.Given as goal
 
 abbrev pub invariant-loop-i : goal.invariant-loop-i

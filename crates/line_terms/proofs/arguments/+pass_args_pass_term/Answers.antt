@@ -1,5 +1,4 @@
 -- `pass_term` and `pass_args`: the measure falls with the levels left, and with the arguments left. Assumes nothing.
-use Prim.Native.Nat.{ℕ, ◌<◌, ◌*◌, ◌+◌}
 use borrow.Author.Rules.{rules}
 use Rattle.line_terms.proofs.Arguing.{at_word_end, args-wrong, args-close, args_unclosed, args_comma, args-few, term_none, term_bracket, term-word, term-args, term-bare}
 use Rattle.line_terms.proofs.arguments.+pass_args_pass_term.Goals as goal

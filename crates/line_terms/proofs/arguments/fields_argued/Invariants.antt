@@ -1,8 +1,7 @@
 -- `fields_argued`: the loop's invariant is `Passing`. Assumes nothing.
 use Prim.Native.Nat.{◌-◌}
-use borrow.Author.Rules.{rules}
 use Rattle.terms.specs.Agents.{agents_of}
-use Rattle.line_terms.proofs.Arguing.{Passing, passing_none, passing_end, passing-short, passing-wrong, passing_more}
+use Rattle.line_terms.proofs.Arguing.{Passing}
 use Rattle.line_terms.proofs.arguments.fields_argued.Given as goal
 
 abbrev pub invariant-loop-i : goal.invariant-loop-i

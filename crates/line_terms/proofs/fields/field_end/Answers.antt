@@ -1,6 +1,5 @@
 -- `field_end`: the place of the next tab, counted from `at`. Assumes nothing.
 use native.Mathlib.Omega.{arith}
-use borrow.Author.Rules.{rules}
 use Rattle.line_terms.proofs.Fielding.{end_within, end_way}
 use Rattle.line_terms.proofs.fields.field_end.Goals as goal
 

@@ -1,9 +1,8 @@
 -- `read_fields`: the loop's invariant is `Reading`. Assumes nothing.
 use Prim.Native.Nat.{◌-◌}
-use borrow.Author.Rules.{rules}
 use Rattle.terms.specs.Sheet.{view}
 use Rattle.terms.specs.Agents.{agents_of}
-use Rattle.line_terms.proofs.Fielding.{Reading, reading_none, reading_end, reading_short, reading_wrong, reading_more}
+use Rattle.line_terms.proofs.Fielding.{Reading}
 use Rattle.line_terms.proofs.fields.read_fields.Given as goal
 
 abbrev pub invariant-loop-i : goal.invariant-loop-i

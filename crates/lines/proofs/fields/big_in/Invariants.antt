@@ -2,8 +2,7 @@
 use Prim.Native.Nat.{suc, ◌-◌}
 use lib.ListN.{length}
 use Rattle.lines.specs.Fields.{too_big}
-use Rattle.lines.proofs.Loops.{Gone, gone_none, gone_more, gone_hit, gone_end, field_room}
-use borrow.Author.Rules.{rules}
+use Rattle.lines.proofs.Loops.{Gone}
 use Rattle.lines.proofs.fields.big_in.Given as goal
 
 abbrev pub invariant-loop-at : goal.invariant-loop-at

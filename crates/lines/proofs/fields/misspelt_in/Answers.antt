@@ -1,8 +1,5 @@
 -- `misspelt_in`: no field before the place is bad. Assumes nothing.
-use Prim.Native.Nat.{suc, ◌-◌}
-use lib.ListN.{length}
-use Rattle.texts.proofs.Beneath.Passes.{misspelt}
-use Rattle.lines.proofs.Loops.{Gone, gone_none, gone_more, gone_hit, gone_end, field_room}
+use Rattle.lines.proofs.Loops.{gone_none, gone_more, gone_hit, gone_end, field_room}
 use borrow.Author.Rules.{rules}
 use Rattle.lines.proofs.fields.misspelt_in.Goals as goal
 

@@ -2,8 +2,7 @@
 use Prim.Native.Nat.{suc, ◌-◌}
 use lib.ListN.{length}
 use Rattle.texts.proofs.Beneath.Passes.{misspelt}
-use Rattle.lines.proofs.Loops.{Gone, gone_none, gone_more, gone_hit, gone_end, field_room}
-use borrow.Author.Rules.{rules}
+use Rattle.lines.proofs.Loops.{Gone}
 use Rattle.lines.proofs.fields.misspelt_in.Given as goal
 
 abbrev pub invariant-loop-at : goal.invariant-loop-at

@@ -1,10 +1,6 @@
 -- `enter_names`: the words before the place are entered. Assumes nothing.
-use Prim.Native.Nat.{◌-◌}
-use lib.ListN.{length}
-use Rattle.terms.specs.Agents.{agents_of}
-use Rattle.terms.specs.Sheet.{view}
 use Rattle.lines.proofs.Loops.{word-order, word_less}
-use Rattle.lines.proofs.Entering.{Entering, entering_full, entering_none, entering_end, entering_last, entering_more, entering_stop}
+use Rattle.lines.proofs.Entering.{entering_full, entering_none, entering_end, entering_last, entering_more, entering_stop}
 use borrow.Author.Rules.{rules}
 use Rattle.lines.proofs.names.enter_names.Goals as goal
 

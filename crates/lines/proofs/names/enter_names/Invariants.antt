@@ -3,9 +3,7 @@ use Prim.Native.Nat.{◌-◌}
 use lib.ListN.{length}
 use Rattle.terms.specs.Agents.{agents_of}
 use Rattle.terms.specs.Sheet.{view}
-use Rattle.lines.proofs.Loops.{word-order, word_less}
-use Rattle.lines.proofs.Entering.{Entering, entering_full, entering_none, entering_end, entering_last, entering_more, entering_stop}
-use borrow.Author.Rules.{rules}
+use Rattle.lines.proofs.Entering.{Entering}
 use Rattle.lines.proofs.names.enter_names.Given as goal
 
 abbrev pub invariant-loop-at : goal.invariant-loop-at

@@ -1,9 +1,5 @@
 -- `cells_in`: n words before the place are declared. Assumes nothing.
-use Prim.Native.Nat.{◌-◌}
-use lib.ListN.{length}
-use Rattle.texts.specs.Books.{declared}
-use Rattle.terms.specs.Agents.{agents_of}
-use Rattle.lines.proofs.Loops.{Counted, counted_none, counted_end, counted_last, counted_more, word-order, word_less}
+use Rattle.lines.proofs.Loops.{counted_none, counted_end, counted_last, counted_more, word-order, word_less}
 use borrow.Author.Rules.{rules}
 use Rattle.lines.proofs.words.cells_in.Goals as goal
 

@@ -3,8 +3,7 @@ use Prim.Native.Nat.{◌-◌}
 use lib.ListN.{length}
 use Rattle.texts.specs.Books.{declared}
 use Rattle.terms.specs.Agents.{agents_of}
-use Rattle.lines.proofs.Loops.{Counted, counted_none, counted_end, counted_last, counted_more, word-order, word_less}
-use borrow.Author.Rules.{rules}
+use Rattle.lines.proofs.Loops.{Counted}
 use Rattle.lines.proofs.words.cells_in.Given as goal
 
 abbrev pub invariant-loop-at : goal.invariant-loop-at

@@ -1,7 +1,5 @@
 -- `stands_in`: no word before the place is the one sought. Assumes nothing.
-use Prim.Native.Nat.{◌-◌}
-use lib.ListN.{length}
-use Rattle.lines.proofs.Loops.{Missed, missed_none, missed_end, missed_last, missed_hit, missed_more, word-order, word_less}
+use Rattle.lines.proofs.Loops.{missed_none, missed_end, missed_last, missed_hit, missed_more, word-order, word_less}
 use borrow.Author.Rules.{rules}
 use Rattle.lines.proofs.words.stands_in.Goals as goal
 

@@ -1,8 +1,7 @@
 -- `stands_in`: no word before the place is the one sought. Assumes nothing.
 use Prim.Native.Nat.{◌-◌}
 use lib.ListN.{length}
-use Rattle.lines.proofs.Loops.{Missed, missed_none, missed_end, missed_last, missed_hit, missed_more, word-order, word_less}
-use borrow.Author.Rules.{rules}
+use Rattle.lines.proofs.Loops.{Missed}
 use Rattle.lines.proofs.words.stands_in.Given as goal
 
 abbrev pub invariant-loop-at : goal.invariant-loop-at

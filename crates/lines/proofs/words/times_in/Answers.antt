@@ -1,8 +1,5 @@
 -- `times_in`: n words before the place are the one sought. Assumes nothing.
-use Prim.Native.Nat.{◌-◌}
-use lib.ListN.{length}
-use Rattle.texts.specs.Bytes.{same}
-use Rattle.lines.proofs.Loops.{Counted, counted_none, counted_end, counted_last, counted_more, as_times, word-order, word_less}
+use Rattle.lines.proofs.Loops.{counted_none, counted_end, counted_last, counted_more, as_times, word-order, word_less}
 use borrow.Author.Rules.{rules}
 use Rattle.lines.proofs.words.times_in.Goals as goal
 

@@ -2,8 +2,7 @@
 use Prim.Native.Nat.{◌-◌}
 use lib.ListN.{length}
 use Rattle.texts.specs.Bytes.{same}
-use Rattle.lines.proofs.Loops.{Counted, counted_none, counted_end, counted_last, counted_more, as_times, word-order, word_less}
-use borrow.Author.Rules.{rules}
+use Rattle.lines.proofs.Loops.{Counted}
 use Rattle.lines.proofs.words.times_in.Given as goal
 
 abbrev pub invariant-loop-at : goal.invariant-loop-at

@@ -1,6 +1,5 @@
 -- `machine::calls::run_on` meets its contract.
-use Rattle.machine.proofs.Runs.{Going, going_none, going_more, going_ended, going_paused, going_full, going_end}
-use Rattle.state.specs.Layout.{view}
+use Rattle.machine.proofs.Runs.{going_none, going_more, going_ended, going_paused, going_full, going_end}
 use borrow.Author.Rules.{rules}
 use Rattle.machine.proofs.calls.run_on.Goals as goal
 

@@ -1,7 +1,6 @@
 -- `machine::calls::run_on` meets its contract.
-use Rattle.machine.proofs.Runs.{Going, going_none, going_more, going_ended, going_paused, going_full, going_end}
+use Rattle.machine.proofs.Runs.{Going}
 use Rattle.state.specs.Layout.{view}
-use borrow.Author.Rules.{rules}
 use Rattle.machine.proofs.calls.run_on.Given as goal
 
 abbrev pub invariant-loop-steps : goal.invariant-loop-steps

@@ -1,7 +1,5 @@
 -- `net_lines::terms_of::append` meets its contract.
-use Prim.Native.Nat.{◌-◌}
-use lib.ListN.{get_or}
-use Rattle.net_lines.proofs.Lines.{Putting, put_none, put_more, put_end}
+use Rattle.net_lines.proofs.Lines.{put_none, put_more, put_end}
 use borrow.Author.Rules.{rules}
 use Rattle.net_lines.proofs.terms_of.append.Goals as goal
 

@@ -1,8 +1,7 @@
 -- `net_lines::terms_of::append` meets its contract.
 use Prim.Native.Nat.{◌-◌}
 use lib.ListN.{get_or}
-use Rattle.net_lines.proofs.Lines.{Putting, put_none, put_more, put_end}
-use borrow.Author.Rules.{rules}
+use Rattle.net_lines.proofs.Lines.{Putting}
 use Rattle.net_lines.proofs.terms_of.append.Given as goal
 
 abbrev pub invariant-loop-i : goal.invariant-loop-i

@@ -1,16 +1,6 @@
 -- `nets::rest::read_eqs` meets its contract.
-use Prim.Native.Nat.{◌-◌, ◌≤◌}
-use mathlib.Core.Path.{◌≡◌}
-use mathlib.Core.List.{[]}
 use native.Mathlib.Omega.{arith}
-use lib.ListN.{length}
-use Rattle.parts.specs.Limits.{net_equations_max}
-use Rattle.texts.specs.Books.{Net}
-use Rattle.terms.specs.Agents.{agents_of}
-use Rattle.terms.specs.Sheet.{view}
-use Rattle.net_lines.specs.Judging.{Fit}
-use Rattle.nets.specs.Drafted.{Drafted}
-use Rattle.nets.specs.Proofs.Going.{Going, going_start, going_more, eqs-done, eqs-fault, on_more, on_within, on_room}
+use Rattle.nets.specs.Proofs.Going.{going_start, going_more, eqs-done, eqs-fault, on_more, on_within, on_room}
 use borrow.Author.Rules.{rules}
 use Rattle.nets.proofs.rest.read_eqs.Goals as goal
 

@@ -2,7 +2,6 @@
 use Prim.Native.Nat.{◌-◌, ◌≤◌}
 use mathlib.Core.Path.{◌≡◌}
 use mathlib.Core.List.{[]}
-use native.Mathlib.Omega.{arith}
 use lib.ListN.{length}
 use Rattle.parts.specs.Limits.{net_equations_max}
 use Rattle.texts.specs.Books.{Net}
@@ -10,8 +9,7 @@ use Rattle.terms.specs.Agents.{agents_of}
 use Rattle.terms.specs.Sheet.{view}
 use Rattle.net_lines.specs.Judging.{Fit}
 use Rattle.nets.specs.Drafted.{Drafted}
-use Rattle.nets.specs.Proofs.Going.{Going, going_start, going_more, eqs-done, eqs-fault, on_more, on_within, on_room}
-use borrow.Author.Rules.{rules}
+use Rattle.nets.specs.Proofs.Going.{Going}
 use Rattle.nets.proofs.rest.read_eqs.Given as goal
 
 abbrev pub invariant-loop-number : goal.invariant-loop-number

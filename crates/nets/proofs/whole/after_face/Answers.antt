@@ -1,6 +1,5 @@
 -- `nets::whole::after_face` meets its contract.
 use Rattle.nets.specs.Proofs.Wholes.{face-faulty, count-upper, count-lower, eqs-few, text_8, text-fine}
-use borrow.Author.Rules.{rules}
 use Rattle.nets.proofs.whole.after_face.Goals as goal
 
 pub returns-then-number-ne0 : goal.returns-then-number-ne0

@@ -1,6 +1,5 @@
 -- `nets::whole::read_lines` meets its contract.
 use Rattle.nets.specs.Proofs.Wholes.{text_first, text-second, begun, text-rest, within-few, within_text}
-use borrow.Author.Rules.{rules}
 use Rattle.nets.proofs.whole.read_lines.Goals as goal
 
 pub after_face-requires : goal.after_face-requires

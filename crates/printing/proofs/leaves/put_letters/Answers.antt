@@ -1,7 +1,5 @@
 -- `printing::leaves::put_letters` meets its contract.
-use Prim.Native.Nat.{◌-◌}
-use Rattle.parts.specs.Limits.{identifier_max}
-use Rattle.printing.proofs.Stores.{Lettering, letters_begin, letters-stop, letters_more, letters_end}
+use Rattle.printing.proofs.Stores.{letters_begin, letters-stop, letters_more, letters_end}
 use borrow.Author.Rules.{rules}
 use Rattle.printing.proofs.leaves.put_letters.Goals as goal
 

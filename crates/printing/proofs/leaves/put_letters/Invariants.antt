@@ -1,8 +1,7 @@
 -- `printing::leaves::put_letters` meets its contract.
 use Prim.Native.Nat.{◌-◌}
 use Rattle.parts.specs.Limits.{identifier_max}
-use Rattle.printing.proofs.Stores.{Lettering, letters_begin, letters-stop, letters_more, letters_end}
-use borrow.Author.Rules.{rules}
+use Rattle.printing.proofs.Stores.{Lettering}
 use Rattle.printing.proofs.leaves.put_letters.Given as goal
 
 abbrev pub invariant-loop-j : goal.invariant-loop-j

@@ -1,11 +1,8 @@
 -- `printing::terms::print_side`, `print_cell` and `print_sides` meet their contracts. The measure is the cells left.
-use Prim.Native.Nat.{◌+◌, ◌*◌}
 use borrow.Author.Rules.{rules}
-use Rattle.parts.specs.Limits.{arity_max}
 use Rattle.printing.proofs.Agents.{cell_end, table-usable, may_begin, args_fall, args-ready, args_row, bracket_room, cell_way}
 use Rattle.printing.proofs.Ways.{ready_less, leaf_one, leaf_left, leaf_right, cell-live, side-numbered, side_one, side_two, side_as_cell}
 use Rattle.printing.proofs.Ways.{sides_end, first_live, first_ready, first_falls, rest-ready, rest-row, rest-falls, next_fits, sides_way}
-use Prim.Native.Nat.{ℕ, ◌<◌}
 use Rattle.printing.proofs.terms.+print_cell_print_side_print_sides.Goals as goal
 
 pub print_cell-returns-then-k-eq0 : goal.print_cell-returns-then-k-eq0

@@ -1,8 +1,7 @@
 -- `report::fields::put_bytes` meets its contract.
 use Prim.Native.Nat.{◌-◌}
 use lib.ListN.{length}
-use borrow.Author.Rules.{rules}
-use Rattle.report.specs.Stores.{Storing, storing_none, storing_more, storing_end}
+use Rattle.report.specs.Stores.{Storing}
 use Rattle.report.proofs.fields.put_bytes.Given as goal
 
 abbrev pub invariant-loop-i : goal.invariant-loop-i

@@ -1,8 +1,7 @@
 -- `row_test::codes::codes_ok` meets its contract.
 use borrow.Author.Rules.{rules}
-use Prim.Native.Nat.{◌-◌}
-use Rattle.table.specs.Laws.Passing.{Passed, passed_none}
-use Rattle.row_test.proofs.Coding.{Fit, fit_more, fit_not, fit_end}
+use Rattle.table.specs.Laws.Passing.{passed_none}
+use Rattle.row_test.proofs.Coding.{fit_more, fit_not, fit_end}
 use Rattle.row_test.proofs.codes.codes_ok.Goals as goal
 
 pub loop-i-init : goal.loop-i-init

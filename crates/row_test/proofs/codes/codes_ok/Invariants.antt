@@ -1,8 +1,7 @@
 -- `row_test::codes::codes_ok` meets its contract.
-use borrow.Author.Rules.{rules}
 use Prim.Native.Nat.{◌-◌}
-use Rattle.table.specs.Laws.Passing.{Passed, passed_none}
-use Rattle.row_test.proofs.Coding.{Fit, fit_more, fit_not, fit_end}
+use Rattle.table.specs.Laws.Passing.{Passed}
+use Rattle.row_test.proofs.Coding.{Fit}
 use Rattle.row_test.proofs.codes.codes_ok.Given as goal
 
 abbrev pub invariant-loop-i : goal.invariant-loop-i

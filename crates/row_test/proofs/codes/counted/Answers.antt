@@ -1,7 +1,6 @@
 -- `row_test::codes::counted` meets its contract.
 use borrow.Author.Rules.{rules}
-use Prim.Native.Nat.{◌-◌, ◌≤◌}
-use Rattle.row_test.proofs.Coding.{Counted, counted_none, counted_more, counted_end}
+use Rattle.row_test.proofs.Coding.{counted_none, counted_more, counted_end}
 use Rattle.row_test.proofs.codes.counted.Goals as goal
 
 pub loop-i-init : goal.loop-i-init

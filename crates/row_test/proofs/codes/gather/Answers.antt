@@ -1,8 +1,7 @@
 -- `row_test::codes::gather` meets its contract.
 use native.Mathlib.Omega.{arith}
 use borrow.Author.Rules.{rules}
-use Prim.Native.Nat.{◌-◌}
-use Rattle.row_test.proofs.Coding.{Gathering, gathering_none, gathering_room, gathering_more, gathering_end}
+use Rattle.row_test.proofs.Coding.{gathering_none, gathering_room, gathering_more, gathering_end}
 use Rattle.row_test.proofs.codes.gather.Goals as goal
 
 pub loop-c-init : goal.loop-c-init

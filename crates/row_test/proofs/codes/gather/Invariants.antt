@@ -1,8 +1,6 @@
 -- `row_test::codes::gather` meets its contract.
-use native.Mathlib.Omega.{arith}
-use borrow.Author.Rules.{rules}
 use Prim.Native.Nat.{◌-◌}
-use Rattle.row_test.proofs.Coding.{Gathering, gathering_none, gathering_room, gathering_more, gathering_end}
+use Rattle.row_test.proofs.Coding.{Gathering}
 use Rattle.row_test.proofs.codes.gather.Given as goal
 
 abbrev pub invariant-loop-c : goal.invariant-loop-c

@@ -1,9 +1,7 @@
 -- `row_test::codes::standing_ok` meets its contract.
 use borrow.Author.Rules.{rules}
-use Prim.Native.Nat.{◌-◌}
-use Rattle.row_test.specs.Row.{sides_within}
-use Rattle.table.specs.Laws.Passing.{Passed, passed_none}
-use Rattle.row_test.proofs.Coding.{Often, often_more, often_not, often_end}
+use Rattle.table.specs.Laws.Passing.{passed_none}
+use Rattle.row_test.proofs.Coding.{often_more, often_not, often_end}
 use Rattle.row_test.proofs.codes.standing_ok.Goals as goal
 
 pub loop-i-init : goal.loop-i-init

@@ -1,9 +1,8 @@
 -- `row_test::codes::standing_ok` meets its contract.
-use borrow.Author.Rules.{rules}
 use Prim.Native.Nat.{◌-◌}
 use Rattle.row_test.specs.Row.{sides_within}
-use Rattle.table.specs.Laws.Passing.{Passed, passed_none}
-use Rattle.row_test.proofs.Coding.{Often, often_more, often_not, often_end}
+use Rattle.table.specs.Laws.Passing.{Passed}
+use Rattle.row_test.proofs.Coding.{Often}
 use Rattle.row_test.proofs.codes.standing_ok.Given as goal
 
 abbrev pub invariant-loop-i : goal.invariant-loop-i

@@ -1,8 +1,7 @@
 -- `row_test::rule::cells_ok` meets its contract.
-use borrow.Author.Rules.{rules}
 use Prim.Native.Nat.{◌-◌}
-use Rattle.table.specs.Laws.Passing.{Passed, passed_none}
-use Rattle.row_test.proofs.Verdict.{Declared, cell_more, cell_not, cell_end}
+use Rattle.table.specs.Laws.Passing.{Passed}
+use Rattle.row_test.proofs.Verdict.{Declared}
 use Rattle.row_test.proofs.rule.cells_ok.Given as goal
 
 abbrev pub invariant-loop-c : goal.invariant-loop-c

@@ -1,7 +1,6 @@
 -- `row_test::rule::sides_ok` meets its contract.
 use native.Mathlib.Omega.{arith}
 use Rattle.row_test.proofs.Verdict.{left_room, right_room, arity-read, sides_way}
-use borrow.Author.Rules.{rules}
 use Rattle.row_test.proofs.rule.sides_ok.Goals as goal
 
 pub standing_ok-requires : goal.standing_ok-requires

@@ -1,6 +1,5 @@
 -- `row_test::rule::template_ok` meets its contract.
 use Rattle.row_test.proofs.Verdict.{row_fits, template-small, template-cells, template-rest}
-use borrow.Author.Rules.{rules}
 use Rattle.row_test.proofs.rule.template_ok.Goals as goal
 
 pub cells_ok-requires : goal.cells_ok-requires

@@ -1,5 +1,4 @@
 -- `row_test::walking::after` meets its contract.
-use borrow.Author.Rules.{rules}
 use Rattle.row_test.proofs.Walks.{after_new, after_old}
 use Rattle.row_test.proofs.walking.after.Goals as goal
 

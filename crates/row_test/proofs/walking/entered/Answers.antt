@@ -1,5 +1,4 @@
 -- `row_test::walking::entered` meets its contract.
-use borrow.Author.Rules.{rules}
 use Rattle.row_test.proofs.Walks.{entered-room, entered_way}
 use Rattle.row_test.proofs.walking.entered.Goals as goal
 

@@ -1,9 +1,8 @@
 -- `row_test::walking::walk_ok` meets its contract.
-use borrow.Author.Rules.{rules}
 use Prim.Native.Nat.{◌+◌, ◌-◌, ◌*◌}
 use Rattle.parts.specs.Limits.{rule_cells_max}
 use Rattle.row_test.specs.Row.{sides_max}
-use Rattle.row_test.proofs.Walks.{Walking, walking_none, walking_room, walking_less, walking_cell, walking_astray, walking_name, walking_late, walking_end}
+use Rattle.row_test.proofs.Walks.{Walking}
 use Rattle.row_test.proofs.walking.walk_ok.Given as goal
 
 abbrev pub invariant-loop-top : goal.invariant-loop-top

@@ -1,9 +1,8 @@
 -- `rule_sheet::lefts::enter_left`: the loop keeps `Entering`.
-use borrow.Author.Rules.{rules}
 use Prim.Native.Nat.{◌-◌}
 use Rattle.parts.specs.Limits.{arity_max}
 use Rattle.terms.specs.Sheet.{view}
-use Rattle.rule_sheet.proofs.Entering.{Entering, entering_none, entering_room, entering_more, entering_end}
+use Rattle.rule_sheet.proofs.Entering.{Entering}
 use Rattle.rule_sheet.proofs.lefts.enter_left.Given as goal
 
 abbrev pub invariant-loop-i : goal.invariant-loop-i

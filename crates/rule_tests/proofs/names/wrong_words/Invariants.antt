@@ -1,11 +1,10 @@
 -- `rule_tests::names::wrong_words`: no name before the place stands a wrong number of times.
-use borrow.Author.Rules.{rules}
 use Prim.Native.Nat.{◌-◌}
 use lib.ListN.{length}
 use Rattle.scan.specs.Words.{words_in}
 use Rattle.terms.specs.Agents.{agents_of}
 use Rattle.rule_tests.specs.Words.{wrong_word}
-use Rattle.rule_tests.proofs.Loops.{Missed, missed_none, missed_end, missed_last, missed_hit, missed_more, word-order, word_less}
+use Rattle.rule_tests.proofs.Loops.{Missed}
 use Rattle.rule_tests.proofs.names.wrong_words.Given as goal
 
 abbrev pub invariant-loop-at : goal.invariant-loop-at

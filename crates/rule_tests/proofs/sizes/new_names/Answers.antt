@@ -1,11 +1,6 @@
 -- `rule_tests::sizes::new_names`: n names before the place stand last there.
 use borrow.Author.Rules.{rules}
-use Prim.Native.Nat.{◌-◌}
-use lib.ListN.{length}
-use Rattle.scan.specs.Words.{words_in}
-use Rattle.terms.specs.Agents.{agents_of}
-use Rattle.rule_tests.specs.Words.{new_word}
-use Rattle.rule_tests.proofs.Loops.{Counted, counted_none, counted_end, counted_last, counted_more, word-order, word_less}
+use Rattle.rule_tests.proofs.Loops.{counted_none, counted_end, counted_last, counted_more, word-order, word_less}
 use Rattle.rule_tests.proofs.sizes.new_names.Goals as goal
 
 pub loop-at-init : goal.loop-at-init

@@ -1,6 +1,5 @@
 -- `rule_tests::words::after_word` meets its contract.
 use Rattle.rule_tests.proofs.Loops.{after_is}
-use borrow.Author.Rules.{rules}
 use Rattle.rule_tests.proofs.words.after_word.Goals as goal
 
 pub returns : goal.returns

@@ -1,8 +1,6 @@
 -- `rules::text::read_records` meets its contract: the loop's invariant is `Reading`.
-use Prim.Native.Nat.{◌-◌}
-use lib.ListN.{length}
 use borrow.Author.Rules.{rules}
-use Rattle.rules.proofs.Reading.{Reading, reading_none, reading_end, reading_unended, end_begins, line-stands, reading_bad, end_fits, number_fits, end_less, reading_more}
+use Rattle.rules.proofs.Reading.{reading_none, reading_end, reading_unended, end_begins, line-stands, reading_bad, end_fits, number_fits, end_less, reading_more}
 use Rattle.rules.proofs.text.read_records.Goals as goal
 
 pub loop-end-init : goal.loop-end-init

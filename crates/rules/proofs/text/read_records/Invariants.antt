@@ -1,8 +1,7 @@
 -- `rules::text::read_records` meets its contract: the loop's invariant is `Reading`.
 use Prim.Native.Nat.{◌-◌}
 use lib.ListN.{length}
-use borrow.Author.Rules.{rules}
-use Rattle.rules.proofs.Reading.{Reading, reading_none, reading_end, reading_unended, end_begins, line-stands, reading_bad, end_fits, number_fits, end_less, reading_more}
+use Rattle.rules.proofs.Reading.{Reading}
 use Rattle.rules.proofs.text.read_records.Given as goal
 
 abbrev pub invariant-loop-end : goal.invariant-loop-end

@@ -1,10 +1,5 @@
 -- `sound::passes::all_blanks` meets its contract.
-use Prim.Native.Nat.{◌-◌}
-use Rattle.parts.specs.Limits.{cells_max}
-use Rattle.sound.proofs.Every.{Passing, pass_start, pass_more, pass_end}
-use Rattle.sound.specs.Clauses.{blanks}
-use Rattle.sound.specs.Lent.{under}
-use Rattle.state.specs.Layout.{view}
+use Rattle.sound.proofs.Every.{pass_start, pass_more, pass_end}
 use borrow.Author.Rules.{rules}
 use Rattle.sound.proofs.passes.all_blanks.Goals as goal
 

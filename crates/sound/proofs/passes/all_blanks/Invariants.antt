@@ -1,11 +1,10 @@
 -- `sound::passes::all_blanks` meets its contract.
 use Prim.Native.Nat.{◌-◌}
 use Rattle.parts.specs.Limits.{cells_max}
-use Rattle.sound.proofs.Every.{Passing, pass_start, pass_more, pass_end}
+use Rattle.sound.proofs.Every.{Passing}
 use Rattle.sound.specs.Clauses.{blanks}
 use Rattle.sound.specs.Lent.{under}
 use Rattle.state.specs.Layout.{view}
-use borrow.Author.Rules.{rules}
 use Rattle.sound.proofs.passes.all_blanks.Given as goal
 
 abbrev pub invariant-loop-c : goal.invariant-loop-c

@@ -1,11 +1,9 @@
 -- `sound::passes::both_ways` meets its contract.
 use Prim.Native.Nat.{◌-◌}
 use Rattle.parts.specs.Limits.{names_max}
-use Rattle.sound.proofs.Every.{Passing, pass_start, pass_more}
-use Rattle.sound.proofs.Ways.{answers_end}
+use Rattle.sound.proofs.Every.{Passing}
 use Rattle.sound.specs.Clauses.{answers}
 use Rattle.state.specs.Layout.{view}
-use borrow.Author.Rules.{rules}
 use Rattle.sound.proofs.passes.both_ways.Given as goal
 
 abbrev pub invariant-loop-x : goal.invariant-loop-x

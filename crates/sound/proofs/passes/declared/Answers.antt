@@ -1,11 +1,6 @@
 -- `sound::passes::declared` meets its contract.
-use Prim.Native.Nat.{◌-◌}
-use Rattle.parts.specs.Limits.{cells_max}
-use Rattle.sound.proofs.Every.{Passing, pass_start, pass_more}
+use Rattle.sound.proofs.Every.{pass_start, pass_more}
 use Rattle.sound.proofs.Ways.{named_end}
-use Rattle.sound.specs.Clauses.{named}
-use Rattle.sound.specs.Lent.{under}
-use Rattle.state.specs.Layout.{view}
 use borrow.Author.Rules.{rules}
 use Rattle.sound.proofs.passes.declared.Goals as goal
 

@@ -1,9 +1,5 @@
 -- `sound::passes::zero_past` meets its contract.
-use Prim.Native.Nat.{◌-◌}
-use Rattle.sound.proofs.Every.{Passing, pass_start, pass_more, pass_end}
-use Rattle.sound.specs.Clauses.{zero_past}
-use Rattle.state.specs.Layout.{view}
-use Rattle.state.specs.Places.{words}
+use Rattle.sound.proofs.Every.{pass_start, pass_more, pass_end}
 use borrow.Author.Rules.{rules}
 use Rattle.sound.proofs.passes.zero_past.Goals as goal
 

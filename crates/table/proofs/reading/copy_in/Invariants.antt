@@ -1,8 +1,7 @@
 -- `table::reading::copy_in` meets its contract.
-use borrow.Author.Rules.{rules}
 use Prim.Native.Nat.{◌-◌}
 use lib.ListN.{length}
-use Rattle.table.proofs.Storing.{Storing, storing_none, storing_more, storing_done}
+use Rattle.table.proofs.Storing.{Storing}
 use Rattle.table.proofs.reading.copy_in.Given as goal
 
 abbrev pub invariant-loop-i : goal.invariant-loop-i

@@ -1,8 +1,7 @@
 -- `table_test::agents::agent_new` meets its contract.
 use borrow.Author.Rules.{rules}
-use Prim.Native.Nat.{◌-◌}
-use Rattle.table.specs.Laws.Passing.{Passed, passed_none}
-use Rattle.table_test.proofs.Agreed.{Other, other_more, other_hit, other_end}
+use Rattle.table.specs.Laws.Passing.{passed_none}
+use Rattle.table_test.proofs.Agreed.{other_more, other_hit, other_end}
 use Rattle.table_test.proofs.agents.agent_new.Goals as goal
 
 pub loop-j-init : goal.loop-j-init

@@ -1,8 +1,7 @@
 -- `table_test::agents::agent_new` meets its contract.
-use borrow.Author.Rules.{rules}
 use Prim.Native.Nat.{◌-◌}
-use Rattle.table.specs.Laws.Passing.{Passed, passed_none}
-use Rattle.table_test.proofs.Agreed.{Other, other_more, other_hit, other_end}
+use Rattle.table.specs.Laws.Passing.{Passed}
+use Rattle.table_test.proofs.Agreed.{Other}
 use Rattle.table_test.proofs.agents.agent_new.Given as goal
 
 abbrev pub invariant-loop-j : goal.invariant-loop-j

@@ -1,8 +1,7 @@
 -- `table_test::agents::agents_ok` meets its contract.
 use borrow.Author.Rules.{rules}
-use Prim.Native.Nat.{◌-◌}
-use Rattle.table.specs.Laws.Passing.{Passed, passed_none}
-use Rattle.table_test.proofs.Agreed.{Agreed, agreed_more, agreed-bad, agreed_old, agreed_end}
+use Rattle.table.specs.Laws.Passing.{passed_none}
+use Rattle.table_test.proofs.Agreed.{agreed_more, agreed-bad, agreed_old, agreed_end}
 use Rattle.table_test.proofs.agents.agents_ok.Goals as goal
 
 pub loop-s-init : goal.loop-s-init

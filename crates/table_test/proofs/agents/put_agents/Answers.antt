@@ -1,7 +1,6 @@
 -- `table_test::agents::put_agents` meets its contract.
 use borrow.Author.Rules.{rules}
-use Prim.Native.Nat.{◌-◌}
-use Rattle.table_test.proofs.Agreed.{Copied, copied_none, copied-room, copied_more, copied_end}
+use Rattle.table_test.proofs.Agreed.{copied_none, copied-room, copied_more, copied_end}
 use Rattle.table_test.proofs.agents.put_agents.Goals as goal
 
 pub loop-s-init : goal.loop-s-init

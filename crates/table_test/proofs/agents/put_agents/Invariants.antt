@@ -1,7 +1,6 @@
 -- `table_test::agents::put_agents` meets its contract.
-use borrow.Author.Rules.{rules}
 use Prim.Native.Nat.{◌-◌}
-use Rattle.table_test.proofs.Agreed.{Copied, copied_none, copied-room, copied_more, copied_end}
+use Rattle.table_test.proofs.Agreed.{Copied}
 use Rattle.table_test.proofs.agents.put_agents.Given as goal
 
 abbrev pub invariant-loop-s : goal.invariant-loop-s

@@ -1,8 +1,6 @@
 -- `table_test::agents::word_len` meets its contract.
 use borrow.Author.Rules.{rules}
-use Prim.Native.Nat.{◌-◌}
-use lib.ListN.{length}
-use Rattle.table_test.proofs.Agreed.{Spelling, spelling_none, spelling_more, spelling_hit, spelling_end}
+use Rattle.table_test.proofs.Agreed.{spelling_none, spelling_more, spelling_hit, spelling_end}
 use Rattle.table_test.proofs.agents.word_len.Goals as goal
 
 pub loop-i-init : goal.loop-i-init

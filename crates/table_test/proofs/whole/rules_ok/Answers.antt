@@ -1,6 +1,5 @@
 -- `table_test::whole::rules_ok` meets its contract.
-use Rattle.table_test.proofs.Ruling.{Ruling, ruling_none, ruling_below, ruling_asks, ruling_room, ruling_more, ruling_not, ruling_end}
-use Prim.Native.Nat.{◌-◌}
+use Rattle.table_test.proofs.Ruling.{ruling_none, ruling_below, ruling_asks, ruling_room, ruling_more, ruling_not, ruling_end}
 use borrow.Author.Rules.{rules}
 use Rattle.table_test.proofs.whole.rules_ok.Goals as goal
 

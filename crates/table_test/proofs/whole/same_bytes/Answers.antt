@@ -1,10 +1,9 @@
 -- `table_test::whole::same_bytes` meets its contract.
 use borrow.Author.Rules.{rules}
-use Prim.Native.Nat.{◌-◌}
 use mathlib.Core.Path.{◌≡◌}
 use lib.ListN.{length}
 use Rattle.parts.specs.Limits.{table_size}
-use Rattle.table_test.proofs.Ruling.{Comparing, comparing_none, comparing_more, comparing_end}
+use Rattle.table_test.proofs.Ruling.{comparing_none, comparing_more, comparing_end}
 use Rattle.table_test.proofs.whole.same_bytes.Goals as goal
 
 pub loop-i-init : goal.loop-i-init

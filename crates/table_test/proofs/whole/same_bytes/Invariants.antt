@@ -1,10 +1,7 @@
 -- `table_test::whole::same_bytes` meets its contract.
-use borrow.Author.Rules.{rules}
 use Prim.Native.Nat.{◌-◌}
-use mathlib.Core.Path.{◌≡◌}
-use lib.ListN.{length}
 use Rattle.parts.specs.Limits.{table_size}
-use Rattle.table_test.proofs.Ruling.{Comparing, comparing_none, comparing_more, comparing_end}
+use Rattle.table_test.proofs.Ruling.{Comparing}
 use Rattle.table_test.proofs.whole.same_bytes.Given as goal
 
 abbrev pub invariant-loop-i : goal.invariant-loop-i

@@ -1,6 +1,5 @@
 -- `table_test::whole::table_sound` meets its contract.
 use Rattle.table_test.proofs.Ruling.{agents_wait, rules_wait, many-symbols, many-rules, bad-agents, bad-rules, all_told}
-use borrow.Author.Rules.{rules}
 use Rattle.table_test.proofs.whole.table_sound.Goals as goal
 
 pub returns-then-wide-gt-SYMBOLS : goal.returns-then-wide-gt-SYMBOLS

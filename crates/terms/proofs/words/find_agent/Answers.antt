@@ -1,7 +1,5 @@
 -- `find_agent`: the first k agents are passed, none of that spelling. Assumes nothing.
-use Prim.Native.Nat.{◌-◌}
-use Rattle.parts.specs.Limits.{symbols_max}
-use Rattle.terms.proofs.Look.{Looked, looked_none, looked_past, looked_here, looked_more, looked_end}
+use Rattle.terms.proofs.Look.{looked_none, looked_past, looked_here, looked_more, looked_end}
 use borrow.Author.Rules.{rules}
 use Rattle.terms.proofs.words.find_agent.Goals as goal
 

@@ -1,8 +1,7 @@
 -- `find_agent`: the first k agents are passed, none of that spelling. Assumes nothing.
 use Prim.Native.Nat.{◌-◌}
 use Rattle.parts.specs.Limits.{symbols_max}
-use Rattle.terms.proofs.Look.{Looked, looked_none, looked_past, looked_here, looked_more, looked_end}
-use borrow.Author.Rules.{rules}
+use Rattle.terms.proofs.Look.{Looked}
 use Rattle.terms.proofs.words.find_agent.Given as goal
 
 abbrev pub invariant-loop-k : goal.invariant-loop-k

@@ -1,7 +1,5 @@
 -- `find_name`: the first k names are passed, none of that spelling. Assumes nothing.
-use Prim.Native.Nat.{◌-◌}
-use Rattle.terms.specs.Sheet.{view}
-use Rattle.terms.proofs.Look.{Sought, sought_none, sought_here, sought_more, sought_end}
+use Rattle.terms.proofs.Look.{sought_none, sought_here, sought_more, sought_end}
 use borrow.Author.Rules.{rules}
 use Rattle.terms.proofs.words.find_name.Goals as goal
 

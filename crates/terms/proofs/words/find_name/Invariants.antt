@@ -1,8 +1,7 @@
 -- `find_name`: the first k names are passed, none of that spelling. Assumes nothing.
 use Prim.Native.Nat.{◌-◌}
 use Rattle.terms.specs.Sheet.{view}
-use Rattle.terms.proofs.Look.{Sought, sought_none, sought_here, sought_more, sought_end}
-use borrow.Author.Rules.{rules}
+use Rattle.terms.proofs.Look.{Sought}
 use Rattle.terms.proofs.words.find_name.Given as goal
 
 abbrev pub invariant-loop-k : goal.invariant-loop-k
