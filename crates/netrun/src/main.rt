@@ -1,5 +1,6 @@
 // Reads `rules.txt` and `net.txt`, and prints what the evaluator makes of them.
 #![tactic(auto)]
+
 use evaluation::evaluate;
 use evaluation::sizes::Output;
 use files::read_file;
