@@ -1,6 +1,6 @@
 -- The newline that ends a line of the index stands past the line's beginning and within the index.
 use Rattle.std.proofs.Common.{arith}
-use Rattle.scan.specs.Laws.Cutting.{ended_line_lem}
+use Rattle.scan.proofs.Beneath.Cutting.{ended_line_lem}
 use Rattle.cases.proofs.try_all.Goals as goal
 
 pub overflow_sub-end : goal.overflow_sub-end
