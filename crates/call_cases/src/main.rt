@@ -1,6 +1,7 @@
 // Plays the scripts of data/: calls of the library on tables and states made by hand, damaged ones among them. A line of a script
 // says what to do by its first letter; data/README.txt has them all.
 #![tactic(auto)]
+
 use files::read_file;
 use parts::Limits;
 use scan::cutting::find;

@@ -28,24 +28,14 @@ fn word(state: &[u16; Limits::STATE], from: usize, i: usize) -> u16 {
 }
 
 // Sides, the first first.
-fn sides(
-    rt: &impl Print,
-    state: &[u16; Limits::STATE],
-    from: usize,
-    n: u16,
-) -> io::Result<()> {
+fn sides(rt: &impl Print, state: &[u16; Limits::STATE], from: usize, n: u16) -> io::Result<()> {
     for i in 0..n {
         side(rt, word(state, from, i as usize))?;
     }
     Ok(())
 }
 
-fn pair_at(
-    rt: &impl Print,
-    state: &[u16; Limits::STATE],
-    from: usize,
-    k: u16,
-) -> io::Result<()> {
+fn pair_at(rt: &impl Print, state: &[u16; Limits::STATE], from: usize, k: u16) -> io::Result<()> {
     let i = 2 * (k as usize);
     side(rt, word(state, from, i))?;
     side(rt, word(state, from, i + 1))?;
@@ -53,12 +43,7 @@ fn pair_at(
 }
 
 // Pairs of sides, the last first.
-fn pairs(
-    rt: &impl Print,
-    state: &[u16; Limits::STATE],
-    from: usize,
-    n: u16,
-) -> io::Result<()> {
+fn pairs(rt: &impl Print, state: &[u16; Limits::STATE], from: usize, n: u16) -> io::Result<()> {
     for k in (0..n).rev() {
         pair_at(rt, state, from, k)?;
     }

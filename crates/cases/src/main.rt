@@ -1,6 +1,7 @@
 // Runs each case that `index.txt` names: through the two readers, whose answers are printed, and through the evaluator, whose output
 // is held to the expected one.
 #![tactic(auto)]
+
 ghost use Rattle.std.specs.Prelude.{◌≤◌, IfOk, length};
 ghost use Rattle.std.specs.Counts.{IsPrefixLen};
 ghost use Rattle.parts.specs.Limits.{text_max};

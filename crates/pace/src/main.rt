@@ -1,6 +1,7 @@
 // Runs one net as often as the first argument says, with the budget that the second gives, and prints the interactions of each run: a
 // program to be timed from outside.
 #![tactic(auto)]
+
 use files::read_file;
 use machine::calls::RunAnswer;
 use parts::Limits;
