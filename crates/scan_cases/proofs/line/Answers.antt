@@ -1,6 +1,6 @@
 -- The newline of a line that is ended stands in the text.
 use Rattle.std.proofs.Common.{arith}
-use Rattle.scan.specs.Laws.Cutting.{ended_line_lem}
+use Rattle.scan.proofs.Beneath.Cutting.{ended_line_lem}
 use Rattle.scan_cases.proofs.line.Goals as goal
 
 pub returns-in_ok-ended-in-Ended : goal.returns-in_ok-ended-in-Ended
