@@ -3,7 +3,7 @@ use Rattle.std.specs.Prelude.{◌≡◌, refl, [], ◌∷◌, map}
 use Rattle.std.proofs.Math.Decide.{ℕ_discrete}
 use Rattle.std.proofs.Common.{arith}
 use Rattle.calculus.proofs.Beneath.Count.{δ_same}
-use Rattle.calculus.specs.Terms.{var, nil, cons, ◌==◌, if_eq}
+use Rattle.calculus.specs.Terms.{var, nil, cons, ◌≐◌, if_eq}
 use Rattle.texts.specs.Bytes.{bytes, decimal}
 use Rattle.answers.specs.Answer.{answer}
 use Rattle.answers.specs.Knots.{Hangs, here, more, Behind}
@@ -20,10 +20,10 @@ pub tie-behind : Behind behind_one.eqs 6
 tie-behind = record { top = 4; way = more hangs here; circle = record { above = 4; hangs = round; round = here } }
   where
     hangs : Hangs behind_one.eqs 6 4
-    hangs = record { tie = tied_head 4 0 (cons (var 4) (cons (var 6) nil)) ((var 6 == Z) ∷ []); inside = omega (arith, δ_same 6) }
+    hangs = record { tie = tied_head 4 0 (cons (var 4) (cons (var 6) nil)) ((var 6 ≐ Z) ∷ []); inside = omega (arith, δ_same 6) }
 
     round : Hangs behind_one.eqs 4 4
-    round = record { tie = tied_head 4 0 (cons (var 4) (cons (var 6) nil)) ((var 6 == Z) ∷ []); inside = omega (arith, δ_same 4) }
+    round = record { tie = tied_head 4 0 (cons (var 4) (cons (var 6) nil)) ((var 6 ≐ Z) ∷ []); inside = omega (arith, δ_same 4) }
 
 -- "Names left are printed `_0`, `_1`": so `_10`.
 pub name_printed : numeral 10 ≡ bytes "_10"

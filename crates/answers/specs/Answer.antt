@@ -1,6 +1,6 @@
 -- What the printed answer of an ended net is (document 01, "Reading the end").
 use Rattle.std.specs.Prelude.{List, [], ◌∷◌, ◌++◌, ℕ, zero, suc, ◌+◌, length}
-use Rattle.calculus.specs.Terms.{Sort, one, many, Tree, var, node, nil, cons, Term, Terms, Eqn, ◌==◌, Conf, if_eq}
+use Rattle.calculus.specs.Terms.{Sort, one, many, Tree, var, node, nil, cons, Term, Terms, Eqn, ◌≐◌, Conf, if_eq}
 
 -- At an end a name is a side of one equation at most. Where x is a side, x is tied if the other side is an agent, and
 -- joined if it is a name. Here is that other side.
@@ -13,7 +13,7 @@ if_name x (var y) a b = if_eq x y a b
 if_name x (node s ts) a b = b
 
 abbrev pub other : ℕ → Eqn → Other
-other x (t == u) = if_name x t (some u) (if_name x u (some t) none)
+other x (t ≐ u) = if_name x t (some u) (if_name x u (some t) none)
 
 -- To follow a name takes its equation out: the other side, and the equations that remain. So no equation is followed
 -- twice, and nothing is ever put into a term that a name stands in: what is not met stays as it is.
@@ -93,15 +93,15 @@ read (suc n) t S = read_by (read n) t S
 abbrev pub stuck_pair : Term → Term → List Eqn
 stuck_pair (var x) u = []
 stuck_pair (node a ts) (var y) = []
-stuck_pair (node a ts) (node b us) = (node a ts == node b us) ∷ []
+stuck_pair (node a ts) (node b us) = (node a ts ≐ node b us) ∷ []
 
 abbrev pub stuck : List Eqn → List Eqn
 stuck [] = []
-stuck ((t == u) ∷ l) = stuck_pair t u ++ stuck l
+stuck ((t ≐ u) ∷ l) = stuck_pair t u ++ stuck l
 
 abbrev pub sides : List Eqn → Terms
 sides [] = nil
-sides ((t == u) ∷ l) = cons t (cons u (sides l))
+sides ((t ≐ u) ∷ l) = cons t (cons u (sides l))
 
 -- The loops x = x.
 abbrev pub loop : Term → Term → ℕ
@@ -111,7 +111,7 @@ loop (node a ts) u = 0
 
 abbrev pub loops : List Eqn → ℕ
 loops [] = 0
-loops ((t == u) ∷ l) = loop t u + loops l
+loops ((t ≐ u) ∷ l) = loop t u + loops l
 
 -- The agents of a term, those that names are tied to, and those of a net.
 abbrev pub agents : {s : Sort} → Tree s → ℕ
@@ -127,11 +127,11 @@ tie_agents (node a ts) (node b us) = 0
 
 abbrev pub tied_agents : List Eqn → ℕ
 tied_agents [] = 0
-tied_agents ((t == u) ∷ l) = tie_agents t u + tied_agents l
+tied_agents ((t ≐ u) ∷ l) = tie_agents t u + tied_agents l
 
 abbrev pub eqs_agents : List Eqn → ℕ
 eqs_agents [] = 0
-eqs_agents ((t == u) ∷ l) = agents t + agents u + eqs_agents l
+eqs_agents ((t ≐ u) ∷ l) = agents t + agents u + eqs_agents l
 
 abbrev pub net_agents : Conf → ℕ
 net_agents C = agents C.face + eqs_agents C.eqs

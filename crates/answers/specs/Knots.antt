@@ -1,6 +1,6 @@
 -- Which ties of an ended net are never met: those on a circle of ties, and those behind one.
 use Rattle.std.specs.Prelude.{◌≡◌, List, ◌∷◌, ◌++◌, ℕ, ◌<◌}
-use Rattle.calculus.specs.Terms.{var, node, Terms, Eqn, ◌==◌, Conf, names, count, ◌∼◌}
+use Rattle.calculus.specs.Terms.{var, node, Terms, Eqn, ◌≐◌, Conf, names, count, ◌∼◌}
 use Rattle.answers.specs.Answer.{stuck, sides, tied_agents, answer}
 
 -- x is tied in some equations: one of them is x = α(t̄). At an end no other equation has x for a side, so a tie is told
@@ -9,7 +9,7 @@ pub record Tied (l : List Eqn) (x : ℕ) : Type 0 where
   pub symbol : ℕ
   pub args : Terms
   pub others : List Eqn
-  pub equation : l ∼ (var x == node symbol args) ∷ others
+  pub equation : l ∼ (var x ≐ node symbol args) ∷ others
 
 -- The tie of x hangs on the tie of y: x occurs in the agent that y is tied to.
 pub record Hangs (l : List Eqn) (x y : ℕ) : Type 0 where

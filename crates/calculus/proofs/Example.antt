@@ -2,7 +2,7 @@
 use Rattle.std.specs.Prelude.{◌≡◌, refl, List, [], ◌∷◌, ℕ, ◌≤◌, ◌<◌}
 use Rattle.std.proofs.Common.{sym, ◌∙◌, inl, inr, arith}
 use Rattle.std.proofs.Math.Decide.{ℕ_discrete}
-use Rattle.calculus.specs.Terms.{var, nil, cons, Term, ◌==◌, Conf, δ, count}
+use Rattle.calculus.specs.Terms.{var, nil, cons, Term, ◌≐◌, Conf, δ, count}
 use Rattle.calculus.specs.Terms.{keep, swap, step, Sides, if_eq}
 use Rattle.calculus.specs.Calculus.{Valid, Proper, SamePair, Book, Sound, Substitution, Collect}
 use Rattle.calculus.specs.Calculus.{Interaction, Label, Int, Step, interaction, Reduction}
@@ -23,10 +23,10 @@ book = listed (add_S ∷ add_Z ∷ [])
 -- ⟨ r | add(r,S(Z)) = S(Z) ⟩ ⟶ ⟨ r | r = S(w), Z = add(w,S(Z)) ⟩ ⟶ ⟨ r | r = S(w), w = S(Z) ⟩, with r and w the names
 -- 0 and 1.
 abbrev middle : Conf
-middle = record { face = cons (var 0) nil; eqs = (var 0 == S (var 1)) ∷ (Z == add (var 1) (S Z)) ∷ [] }
+middle = record { face = cons (var 0) nil; eqs = (var 0 ≐ S (var 1)) ∷ (Z ≐ add (var 1) (S Z)) ∷ [] }
 
 abbrev finish : Conf
-finish = record { face = cons (var 0) nil; eqs = (var 0 == S (var 1)) ∷ (var 1 == S Z) ∷ [] }
+finish = record { face = cons (var 0) nil; eqs = (var 0 ≐ S (var 1)) ∷ (var 1 ≐ S Z) ∷ [] }
 
 pub add_S-proper : Proper add_S
 unfolding δ ℕ_discrete
@@ -80,7 +80,7 @@ second-step =
       name = λ z. z;
       chosen = λ z k. absurd (omega arith);
       choice = record { fresh = λ z k. absurd (omega arith); apart = λ y z j k e. e };
-      Δ = (var 0 == S (var 1)) ∷ [];
+      Δ = (var 0 ≐ S (var 1)) ∷ [];
       before = step swap (keep Sides.turn (whole _));
       after = swap;
       face = refl;
@@ -120,7 +120,7 @@ unfolding if_eq δ ℕ_discrete
 listing-answer = more (substitution followed) (more (collect read) done)
   where
     between : Conf
-    between = record { face = cons (var 0) nil; eqs = (S (S Z) == var 0) ∷ [] }
+    between = record { face = cons (var 0) nil; eqs = (S (S Z) ≐ var 0) ∷ [] }
 
     followed : Substitution finish between
     followed =

@@ -1,6 +1,6 @@
 -- The listing of document 01 in the calculus: its two rules, and its net.
 use Rattle.std.specs.Prelude.{[], ◌∷◌}
-use Rattle.calculus.specs.Terms.{var, node, nil, cons, Term, ◌==◌, Conf}
+use Rattle.calculus.specs.Terms.{var, node, nil, cons, Term, ◌≐◌, Conf}
 use Rattle.calculus.specs.Calculus.{Rule}
 
 -- The agents, numbered as they are declared.
@@ -23,13 +23,13 @@ add_S =
       xs = 0 ∷ 1 ∷ [];
       ys = 4 ∷ [];
       new = 8 ∷ [];
-      body = (var 0 == S (var 8)) ∷ (var 4 == add (var 8) (var 1)) ∷ [];
+      body = (var 0 ≐ S (var 8)) ∷ (var 4 ≐ add (var 8) (var 1)) ∷ [];
     }
 
 -- add(x,y) = Z ⟶ x = y
 abbrev pub add_Z : Rule
-add_Z = record { left = 0; right = 2; xs = 0 ∷ 1 ∷ []; ys = []; new = []; body = (var 0 == var 1) ∷ [] }
+add_Z = record { left = 0; right = 2; xs = 0 ∷ 1 ∷ []; ys = []; new = []; body = (var 0 ≐ var 1) ∷ [] }
 
 -- ⟨ r | add(r,S(Z)) = S(Z) ⟩, with r the name 0.
 abbrev pub start : Conf
-start = record { face = cons (var 0) nil; eqs = (add (var 0) (S Z) == S Z) ∷ [] }
+start = record { face = cons (var 0) nil; eqs = (add (var 0) (S Z) ≐ S Z) ∷ [] }

@@ -21,10 +21,10 @@ Term = Tree one
 abbrev pub Terms : Type 0
 Terms = Tree many
 
-infix 50 ◌==◌
+infix 50 ◌≐◌
 -- Equations:  t = s.
 pub data Eqn : Type 0 where
-  ◌==◌ : Term → Term → Eqn
+  ◌≐◌ : Term → Term → Eqn
 
 -- Configurations:  ⟨ t̄ | Δ ⟩, the interface of a net and its equations.
 pub record Conf : Type 0 where
@@ -40,7 +40,7 @@ names nil = []
 names (cons t ts) = names t ++ names ts
 
 abbrev pub eqn_names : Eqn → List ℕ
-eqn_names (t == u) = names t ++ names u
+eqn_names (t ≐ u) = names t ++ names u
 
 abbrev pub eqs_names : List Eqn → List ℕ
 eqs_names [] = []
@@ -70,7 +70,7 @@ side x (var y) = δ x y
 side x (node a ts) = 0
 
 abbrev pub touch : ℕ → Eqn → ℕ
-touch x (t == u) = min 1 (side x t + side x u)
+touch x (t ≐ u) = min 1 (side x t + side x u)
 
 abbrev pub touches : ℕ → List Eqn → ℕ
 touches x [] = 0
@@ -90,7 +90,7 @@ Reordered {A} = Perm (◌≡◌ {A = A})
 -- Two equations are one up to sides.
 pub data Sides : Eqn → Eqn → Type 0 where
   same : {e : Eqn} → Sides e e
-  turn : {t u : Term} → Sides (t == u) (u == t)
+  turn : {t u : Term} → Sides (t ≐ u) (u ≐ t)
 
 infix 40 ◌∼◌
 -- Two lists of equations are one up to order and sides: Δ is a multiset, and t = s says what s = t says.
@@ -105,7 +105,7 @@ sub σ nil = nil
 sub σ (cons t ts) = cons (sub σ t) (sub σ ts)
 
 abbrev pub sub_eqn : (ℕ → Term) → Eqn → Eqn
-sub_eqn σ (t == u) = sub σ t == sub σ u
+sub_eqn σ (t ≐ u) = sub σ t ≐ sub σ u
 
 -- The sequence of the terms that stand for some names.
 abbrev pub terms : (ℕ → Term) → List ℕ → Terms

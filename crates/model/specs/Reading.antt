@@ -1,7 +1,7 @@
 -- How cells, ties and joins are read as the terms and equations of the calculus.
 use Rattle.std.specs.Prelude.{◌≡◌, List, [], ◌∷◌, ◌++◌, ℕ, zero, suc, ◌+◌}
 use Rattle.std.proofs.Math.Decide.{dec_lt}
-use Rattle.calculus.specs.Terms.{var, node, nil, cons, Term, Terms, Eqn, ◌==◌}
+use Rattle.calculus.specs.Terms.{var, node, nil, cons, Term, Terms, Eqn, ◌≐◌}
 use Rattle.parts.specs.Sides.{Side, name, cell, Pair, ◌:=◌}
 use Rattle.model.specs.State.{free, bare, to, bond}
 use Rattle.model.specs.Table.{Cell}
@@ -21,7 +21,7 @@ pub data ReadsAll (mem : ℕ → Cell) : List Pair → List Eqn → List ℕ →
   no_pairs : ReadsAll mem [] [] []
   pairs : {a b : Side} {t u : Term} {cs ds : List ℕ} {l : List Pair} {m : List Eqn}
       → Reads mem (a ∷ b ∷ []) (cons t (cons u nil)) cs → ReadsAll mem l m ds
-      → ReadsAll mem ((a := b) ∷ l) ((t == u) ∷ m) (cs ++ ds)
+      → ReadsAll mem ((a := b) ∷ l) ((t ≐ u) ∷ m) (cs ++ ds)
 
 -- A tie of x to a cell is the equation x = c; a join of x and y is told by both names, and is the equation x = y at
 -- the lower. These are the ties and joins of the names from number i on.
@@ -52,4 +52,4 @@ pub record Whole (mem : ℕ → Cell) (face : List Side) (P : List Pair) : Type 
 -- n loops are n equations x = x, of the names from `range` on.
 abbrev pub circles : ℕ → ℕ → List Eqn
 circles range zero = []
-circles range (suc n) = (var (range + n) == var (range + n)) ∷ circles range n
+circles range (suc n) = (var (range + n) ≐ var (range + n)) ∷ circles range n

@@ -13,7 +13,8 @@
 --   evaluate                  after these calls: the bytes left of a line, and a number without its last digit
 use Rattle.parts.specs.Limits.{table_size}
 use Rattle.model.specs.State.{zeros}
-use Rattle.review.specs.Words.{ℕ, ◌≡◌, Bool, List, ◌↔◌, state_size, view}
+use Rattle.std.specs.Prelude.{◌≡◌, ◌↔◌}
+use Rattle.review.specs.Words.{ℕ, Bool, List, state_size, view}
 use Rattle.review.specs.Promises.{StateArray, RulesCall, NetCall, StepCall, RunCall, AnswerCall, EvaluateCall, TableTest, BothTest, EmptyState, EmptyTable, One, Any}
 use Rattle.review.proofs.Beneath.Told as Told
 use Rattle.review.proofs.Beneath.Exist as Exist

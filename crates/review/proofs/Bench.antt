@@ -1,6 +1,7 @@
 -- The bench cases P1 to P10 of document 01, from the bytes of the two texts to the bytes that are printed; and that the
 -- premises of demand 3 are not empty.
-use Rattle.review.specs.Words.{ℕ, ◌≡◌, List, bytes, StepAnswer}
+use Rattle.std.specs.Prelude.{◌≡◌}
+use Rattle.review.specs.Words.{ℕ, List, bytes, StepAnswer}
 use Rattle.review.specs.Examples.{text, rules, listing_net, Bench, ackermann_rules, ackermann_net}
 use Rattle.review.specs.Picks.{Calls, Premise}
 use Rattle.review.proofs.Beneath.{Benched.computed, Benched.ackermann, Made.pick_at, Made.answer_at, Made.state_at, Made.calls_on, Started.start_sound}

@@ -26,7 +26,8 @@
 use Rattle.machine.specs.declared.calls.StepAnswer.TheVariants as Step
 use Rattle.machine.specs.declared.calls.RunAnswer.TheVariants as Run
 use Rattle.answer.specs.declared.EndAnswer.TheVariants as End
-use Rattle.review.specs.Words.{ℕ, ◌≤◌, ◌<◌, ◌≡◌, List, ◌↔◌, length, budget_max, picked, NoRoom, view, under, BothSound}
+use Rattle.std.specs.Prelude.{◌≤◌, ◌<◌, ◌≡◌, ◌↔◌}
+use Rattle.review.specs.Words.{ℕ, List, length, budget_max, picked, NoRoom, view, under, BothSound}
 use Rattle.review.specs.Promises.{StateArray, StepCall, RunCall, AnswerCall, lines_of_net}
 use Rattle.review.proofs.Beneath.Calls.{step_unsound, step_no_pick, step_no_room, run_unsound, run_too_much, answer_unsound, answer-waits, answer-long}
 

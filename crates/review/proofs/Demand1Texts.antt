@@ -5,7 +5,8 @@ use Rattle.texts.proofs.Main as Texts
 use Rattle.texts.specs.Refused as Refusing
 use Rattle.rules.specs.declared.RulesAnswer.TheVariants as Rules
 use Rattle.nets.specs.declared.NetAnswer.TheVariants as Net
-use Rattle.review.specs.Words.{ℕ, ◌≡◌, List, [], ◌↔◌, length, Line, Book, Net, no_book, Begins, BadLine, records, rules_written, RulesRight, RuleWrong, RulesRefused, headed, faced, net_written, NetRight, NetWrong, NetRefused, GoodBook, table_bytes, Given, NetAnswer}
+use Rattle.std.specs.Prelude.{◌≡◌, ◌↔◌}
+use Rattle.review.specs.Words.{ℕ, List, [], length, Line, Book, Net, no_book, Begins, BadLine, records, rules_written, RulesRight, RuleWrong, RulesRefused, headed, faced, net_written, NetRight, NetWrong, NetRefused, GoodBook, table_bytes, Given, NetAnswer}
 use Rattle.review.specs.Promises.{StateArray, RulesCall, NetCall}
 use Rattle.review.proofs.Beneath.Texts as Proof
 

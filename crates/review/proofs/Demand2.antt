@@ -12,7 +12,8 @@ use Rattle.nets.specs.declared.NetAnswer.TheVariants as Net
 use Rattle.machine.specs.declared.calls.StepAnswer.TheVariants as Step
 use Rattle.machine.specs.declared.calls.RunAnswer.TheVariants as Run
 use Rattle.answer.specs.declared.EndAnswer.TheVariants as End
-use Rattle.review.specs.Words.{ℕ, ◌+◌, ◌≤◌, ◌<◌, ◌≡◌, List, ◌↔◌, length, text_max, budget_max, ◌≈◌, Conf, Book, Net, print_book, print_net, table_of, machine, load, meant_net, GoodBook, GoodNet, St, Table, place, taken_out, picked, rule_at, Stop, loaded, Sound, book, meaning, Row, view, under, table_bytes, agents_in, BothSound, sound_table_lem, sound-state, agents, tied_agents, net_agents, Collected, Substituted, Knotted, RunAnswer}
+use Rattle.std.specs.Prelude.{◌+◌, ◌≤◌, ◌<◌, ◌≡◌, ◌↔◌}
+use Rattle.review.specs.Words.{ℕ, List, length, text_max, budget_max, ◌≈◌, Conf, Book, Net, print_book, print_net, table_of, machine, load, meant_net, GoodBook, GoodNet, St, Table, place, taken_out, picked, rule_at, Stop, loaded, Sound, book, meaning, Row, view, under, table_bytes, agents_in, BothSound, sound_table_lem, sound-state, agents, tied_agents, net_agents, Collected, Substituted, Knotted, RunAnswer}
 use Rattle.review.specs.Promises.{RulesCall, NetCall, StepCall, RunCall, AnswerCall, Printed, net_answer}
 use Rattle.review.specs.Picks.{RunSteps, stop_answer}
 use Rattle.review.specs.Rulebook.{Written, ReadWritten}

@@ -4,7 +4,8 @@ use Rattle.calculus.specs.Order as Order
 use Rattle.rules.specs.declared.RulesAnswer.TheVariants as Rules
 use Rattle.nets.specs.declared.NetAnswer.TheVariants as Nets
 use Rattle.answer.specs.declared.EndAnswer.TheVariants as End
-use Rattle.review.specs.Words.{ℕ, ◌+◌, ◌*◌, ◌≤◌, ◌≡◌, List, length, count, Label, ◌≈◌, Conf, used, over, right, Stop, meaning, view, under, BothSound, sound-state, StepAnswer, RunAnswer}
+use Rattle.std.specs.Prelude.{◌+◌, ◌*◌, ◌≤◌, ◌≡◌}
+use Rattle.review.specs.Words.{ℕ, List, length, count, Label, ◌≈◌, Conf, used, over, right, Stop, meaning, view, under, BothSound, sound-state, StepAnswer, RunAnswer}
 use Rattle.review.specs.Promises.{RulesCall, NetCall, StepCall, RunCall, AnswerCall}
 use Rattle.review.proofs.Demand2.{answer-read}
 use Rattle.review.specs.Picks.{Accepted, Ends, stop_answer, Call, Moves, Agreed, Calls, ComesToEnd, OneTonnage}

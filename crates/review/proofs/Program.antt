@@ -10,7 +10,8 @@ use Rattle.report.specs.Firsts.{word_paused, word_noroom, refusal}
 use Rattle.report.specs.Firsts as First
 use Rattle.evaluation.specs.Evaluated.{budget, output_max, evaluated}
 use Rattle.std.specs.Prelude.{refl, take}
-use Rattle.review.specs.Words.{ℕ, ◌≤◌, ◌≡◌, List, ◌++◌, length, word_rules, word_net, view, BothSound, RunAnswer}
+use Rattle.std.specs.Prelude.{◌≤◌, ◌≡◌, ◌++◌}
+use Rattle.review.specs.Words.{ℕ, List, length, word_rules, word_net, view, BothSound, RunAnswer}
 use Rattle.review.specs.Promises.{RulesCall, NetCall, RunCall, AnswerCall, lines_of_net}
 use Rattle.review.proofs.Beneath.{Runs.rules-refused, Runs.net-refused, Runs.run-made, Runs.stops, Runs.end_read, Runs.answers, Short.lines-short}
 

@@ -1,5 +1,6 @@
 -- The texts of the examples: the bench cases P1 to P10 of document 01, and the Ackermann book of document 001.
-use Rattle.review.specs.Words.{ℕ, String, ◌≡◌, List, [], ◌∷◌, ◌++◌, bytes, used, view, evaluated}
+use Rattle.std.specs.Prelude.{◌≡◌, ◌∷◌, ◌++◌}
+use Rattle.review.specs.Words.{ℕ, String, List, [], bytes, used, view, evaluated}
 use Rattle.review.specs.Picks.{first_picks, Premise}
 
 -- Lines, each with its newline.

@@ -4,7 +4,8 @@ use Rattle.rules.specs.declared.RulesAnswer.TheVariants as Rules
 use Rattle.nets.specs.declared.NetAnswer.TheVariants as Nets
 use Rattle.machine.specs.declared.calls.StepAnswer.TheVariants as Answer
 use Rattle.machine.specs.declared.calls.RunAnswer.TheVariants as Run
-use Rattle.review.specs.Words.{ℕ, zero, suc, ◌-◌, ◌≤◌, ◌<◌, ◌≡◌, List, [], ◌∷◌, ◌++◌, ◌⊎◌, length, count, Label, Step, Steps, Normal, ◌≈◌, Conf, Book, Net, print_book, print_net, GoodBook, GoodNet, meant_net, Found, picked, rule_at, NoRoom, Stop, ended, paused, noroom, meaning, view, under, BothSound, sound-state, StepAnswer, RunAnswer}
+use Rattle.std.specs.Prelude.{◌-◌, ◌≤◌, ◌<◌, ◌≡◌, ◌∷◌, ◌++◌, ◌⊎◌}
+use Rattle.review.specs.Words.{ℕ, zero, suc, List, [], length, count, Label, Step, Steps, Normal, ◌≈◌, Conf, Book, Net, print_book, print_net, GoodBook, GoodNet, meant_net, Found, picked, rule_at, NoRoom, Stop, ended, paused, noroom, meaning, view, under, BothSound, sound-state, StepAnswer, RunAnswer}
 use Rattle.review.specs.Promises.{RulesCall, NetCall, StepCall, RunCall}
 use Rattle.review.specs.Rulebook.{Written}
 

@@ -1,7 +1,8 @@
 -- What each public call promises, word for word: one relation between what it was lent, its answer and what it leaves.
 use Rattle.answers.specs.Answer.{Answer}
 use Rattle.answer.specs.declared.EndAnswer.{EndAnswer}
-use Rattle.review.specs.Words.{ℕ, ◌≤◌, ◌≡◌, Bool, true, List, ◌++◌, ◌↔◌, length, drop, sets, state_size, view, Words, empty, meaning, answer, answer_text, agents_in, bytes_of, no_table, Given, BothSound, sound-state, leaves, rules_read, RulesAnswer, told, net_call, NetAnswer, end_told, given, called, evaluated, out, step_told, step_called, run_told, run_called, StepAnswer, RunAnswer}
+use Rattle.std.specs.Prelude.{◌≤◌, ◌≡◌, ◌++◌, ◌↔◌}
+use Rattle.review.specs.Words.{ℕ, Bool, true, List, length, drop, sets, state_size, view, Words, empty, meaning, answer, answer_text, agents_in, bytes_of, no_table, Given, BothSound, sound-state, leaves, rules_read, RulesAnswer, told, net_call, NetAnswer, end_told, given, called, evaluated, out, step_told, step_called, run_told, run_called, StepAnswer, RunAnswer}
 
 -- A lent state: an array of that many words of 16 bits. Every array that a caller can lend is one.
 pub record StateArray (v : List ℕ) : Type 0 where

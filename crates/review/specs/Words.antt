@@ -1,6 +1,6 @@
 -- The words of the statements, and the page on which each is defined.
-pub use Prim.Native.{Nat.ℕ, Nat.zero, Nat.suc, Nat.◌+◌, Nat.◌*◌, Nat.◌-◌, Nat.◌≤◌, Nat.◌<◌, String.String}
-pub use mathlib.Core.{Path.◌≡◌, Logic.◌↔◌, Logic.◌⊎◌, Bool.Bool, Bool.true, List.List, List.[], List.◌∷◌, List.◌++◌}
+pub use Prim.Native.{Nat.ℕ, Nat.zero, Nat.suc, String.String}
+pub use mathlib.Core.{Bool.Bool, Bool.true, List.List, List.[]}
 pub use lib.{ListN.length, ListN.drop, Seq.sets}
 pub use Rattle.parts.specs.Limits.{budget_max, text_max}
 pub use Rattle.calculus.specs.Nets.{◌≈◌}

@@ -1,7 +1,7 @@
 -- What a book and a net mean in the calculus of document 001: terms with numbered names, lightweight rules,
 -- configurations.
 use Rattle.std.specs.Prelude.{ℕ, cond, List, map, length}
-use Rattle.calculus.specs.Terms.{var, node, Eqn, ◌==◌, Conf}
+use Rattle.calculus.specs.Terms.{var, node, Eqn, ◌≐◌, Conf}
 use Rattle.calculus.specs.Terms as Calculus
 use Rattle.calculus.specs.Calculus as Rules
 use Rattle.model.specs.State.{from}
@@ -21,7 +21,7 @@ module _ (ags : List Agent) (number : Word → ℕ) where
     trees (cons t ts) = Calculus.cons (tree t) (trees ts)
 
   unfoldable pub tree_equations : List Equation → List Eqn
-  tree_equations es = map (λ e. tree e.left == tree e.right) es
+  tree_equations es = map (λ e. tree e.left ≐ tree e.right) es
 
 -- A rule: its meta-variables are its arguments, by their places.
 unfoldable pub meant_rule : List Agent → Rule → Rules.Rule

@@ -2,7 +2,7 @@
 use Rattle.std.specs.Prelude.{◌≡◌, refl, List, [], ◌∷◌, map, ◌⊎◌, ℕ, ◌+◌, ◌<◌}
 use Rattle.std.proofs.Common.{sym, ◌∙◌, ap, ap₂, inl, inr, arith}
 use Rattle.std.proofs.Math.Decide.{ℕ_discrete}
-use Rattle.calculus.specs.Terms.{Sort, Tree, var, Term, Eqn, ◌==◌, Conf, names, eqs_names, δ, count, occurs, step, Sides, ◌∼◌, sub, sub_eqn, ren, if_eq, ◌⟦◌/◌⟧}
+use Rattle.calculus.specs.Terms.{Sort, Tree, var, Term, Eqn, ◌≐◌, Conf, names, eqs_names, δ, count, occurs, step, Sides, ◌∼◌, sub, sub_eqn, ren, if_eq, ◌⟦◌/◌⟧}
 use Rattle.calculus.specs.Calculus.{Valid, Collect, Label, Com}
 use Rattle.calculus.specs.Descent.{Steps, done, more, Normal}
 use Rattle.calculus.specs.Nets.{◌≈◌, Renaming}
@@ -151,7 +151,7 @@ module _ {C D E : Conf} (v : Valid C) (c : Collect C D) (d : Collect C E) where
       at z (no g) (no h) =
           ap (sub σ) (if_no (var Y) (var z) g) ∙ ap var (exchange_other g h) ∙ sym (if_no (var X) (var z) h)
 
-  one_shared : Sides (var X == c.t) (var Y == d.t) → c.Δ ∼ d.Δ → D ≈ E
+  one_shared : Sides (var X ≐ c.t) (var Y ≐ d.t) → c.Δ ∼ d.Δ → D ≈ E
   one_shared s p = go (sides_inv s)
     where
       go : Matched (var X) c.t (var Y) d.t → D ≈ E
@@ -159,7 +159,7 @@ module _ {C D E : Conf} (v : Valid C) (c : Collect C D) (d : Collect C E) where
       go (inr e) = crossed e.1 (sym e.0) p
 
   -- Two equations: each Collect can be followed by the other.
-  none_shared : Moved Sides (var X == c.t) (var Y == d.t) c.Δ d.Δ → Meet ◌≈◌ Collecting D Com E Com
+  none_shared : Moved Sides (var X ≐ c.t) (var Y ≐ d.t) c.Δ d.Δ → Meet ◌≈◌ Collecting D Com E Com
   none_shared m =
       meet_at
       ≈-equivalence
@@ -246,7 +246,7 @@ module _ {C D E : Conf} (v : Valid C) (c : Collect C D) (d : Collect C E) where
   collects_meet : (D ≈ E) ⊎ Meet ◌≈◌ Collecting D Com E Com
   collects_meet = go (heads (step (back c.before) d.before))
     where
-      go : (Sides (var X == c.t) (var Y == d.t) × (c.Δ ∼ d.Δ)) ⊎ Moved Sides (var X == c.t) (var Y == d.t) c.Δ d.Δ
+      go : (Sides (var X ≐ c.t) (var Y ≐ d.t) × (c.Δ ∼ d.Δ)) ⊎ Moved Sides (var X ≐ c.t) (var Y ≐ d.t) c.Δ d.Δ
           → (D ≈ E) ⊎ Meet ◌≈◌ Collecting D Com E Com
       go (inl h) = inl (one_shared h.0 h.1)
       go (inr m) = inr (none_shared m)

@@ -1,7 +1,7 @@
 -- The bonds of a state say what the equations of its net say.
 use Rattle.std.specs.Prelude.{◌≡◌, refl, List, [], ◌∷◌, ◌++◌, ℕ, zero, suc, ◌+◌, ◌≤◌, ◌<◌, length, get_or}
 use Rattle.std.proofs.Common.{sym, ap, subst, arith}
-use Rattle.calculus.specs.Terms.{step, names, var, Term, Terms, Eqn, ◌==◌, ◌∼◌, count, touches}
+use Rattle.calculus.specs.Terms.{step, names, var, Term, Terms, Eqn, ◌≐◌, ◌∼◌, count, touches}
 use Rattle.calculus.proofs.Beneath.Perm.{perm_append_right}
 use Rattle.calculus.proofs.Beneath.Sub.{Sides_equivalence, ≈of}
 use Rattle.calculus.proofs.Beneath.Count.{first_term, δ_other}
@@ -33,7 +33,7 @@ use Rattle.answers.proofs.Beneath.Same.{once}
 
 inner-append : (x : ℕ) (l m : List Eqn) → inner x (l ++ m) ≡ inner x l + inner x m
 inner-append x [] m = omega arith
-inner-append x ((t == u) ∷ l) m = omega (arith, inner-append x l m)
+inner-append x ((t ≐ u) ∷ l) m = omega (arith, inner-append x l m)
 
 inner-circles : (x range n : ℕ) → inner x (circles range n) ≡ 0
 inner-circles x range zero = refl
@@ -95,7 +95,7 @@ module _ {T : Table} {st : St} (s : Sound T st) (e : st.waiting.used ≡ 0) (o :
               rest : List Eqn
               rest = (q.m' ++ p.others) ++ circles names_max st.loops
 
-              order : (meaning s).eqs ∼ (var x == q.U) ∷ rest
+              order : (meaning s).eqs ∼ (var x ≐ q.U) ∷ rest
               order =
                   perm_append_right
                   Sides_equivalence

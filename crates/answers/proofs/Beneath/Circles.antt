@@ -2,7 +2,7 @@
 use Rattle.std.specs.Prelude.{◌≡◌, refl, List, [], ◌∷◌, ◌++◌, ◌⊎◌, ℕ, ◌+◌, ◌≤◌, ◌<◌, length}
 use Rattle.std.proofs.Common.{sym, ◌∙◌, ap, subst, inl, inr, arith}
 use Rattle.std.proofs.Math.Decide.{ℕ_discrete, dec_lt}
-use Rattle.calculus.specs.Terms.{step, var, node, Term, Terms, Eqn, ◌==◌, Conf, ◌∼◌, names, touch, touches}
+use Rattle.calculus.specs.Terms.{step, var, node, Term, Terms, Eqn, ◌≐◌, Conf, ◌∼◌, names, touch, touches}
 use Rattle.calculus.specs.Terms.{eqs_names, occurs, δ, count}
 use Rattle.calculus.specs.Calculus.{Valid, Closed}
 use Rattle.calculus.proofs.Beneath.Perm.{perm_append_left, perm_shift}
@@ -29,9 +29,9 @@ never_met C = (pairs_read C).after.unmet
 -- How often a name is a side and how often it occurs within the agents of ties.
 touch-wired : (x : ℕ) (l : List Eqn) → touches x l + inner x l ≤ wired x l
 touch-wired x [] = omega arith
-touch-wired x ((t == u) ∷ l) = omega (arith, go t u, touch-wired x l)
+touch-wired x ((t ≐ u) ∷ l) = omega (arith, go t u, touch-wired x l)
   where
-    go : (t u : Term) → touch x (t == u) + inside x t u ≤ wire x t u
+    go : (t u : Term) → touch x (t ≐ u) + inside x t u ≤ wire x t u
     go (var y) (var z) = omega arith
     go (var y) (node b us) = omega arith
     go (node a ts) (var y) = omega arith
@@ -39,9 +39,9 @@ touch-wired x ((t == u) ∷ l) = omega (arith, go t u, touch-wired x l)
 
 untouched_wired : (x : ℕ) (l : List Eqn) → touches x l ≡ 0 → wired x l ≡ inner x l
 untouched_wired x [] h = refl
-untouched_wired x ((t == u) ∷ l) h = omega (arith, go t u (omega (arith, h)), untouched_wired x l (omega (arith, h)))
+untouched_wired x ((t ≐ u) ∷ l) h = omega (arith, go t u (omega (arith, h)), untouched_wired x l (omega (arith, h)))
   where
-    go : (t u : Term) → touch x (t == u) ≡ 0 → wire x t u ≡ inside x t u
+    go : (t u : Term) → touch x (t ≐ u) ≡ 0 → wire x t u ≡ inside x t u
     go (var y) (var z) h = omega (arith, h)
     go (var y) (node b us) h = omega (arith, h)
     go (node a ts) (var y) h = omega (arith, h)
@@ -53,25 +53,25 @@ hangs-inner {x = x} h = omega (arith, h.inside, inner-∼ x h.tie.equation)
 
 inner-hangs : (x : ℕ) (l : List Eqn) → 0 < inner x l → (y : ℕ) × Hangs l x y
 inner-hangs x [] k = absurd (omega (arith, k))
-inner-hangs x ((t == u) ∷ l) k = go t u k (inner-hangs x l)
+inner-hangs x ((t ≐ u) ∷ l) k = go t u k (inner-hangs x l)
   where
     rest : (e : Eqn) → (y : ℕ) × Hangs l x y → (y : ℕ) × Hangs (e ∷ l) x y
     rest e h = (h.0, hangs_more (whole (e ∷ l)) h.1)
 
     go : (t u : Term) → 0 < inside x t u + inner x l → (0 < inner x l → (y : ℕ) × Hangs l x y)
-        → (z : ℕ) × Hangs ((t == u) ∷ l) x z
-    go (var y) (var z) k d = rest (var y == var z) (d (omega (arith, k)))
+        → (z : ℕ) × Hangs ((t ≐ u) ∷ l) x z
+    go (var y) (var z) k d = rest (var y ≐ var z) (d (omega (arith, k)))
     go (var y) (node b us) k d = first (dec_lt 0 (count x (names us)))
       where
-        first : Dec (0 < count x (names us)) → (z : ℕ) × Hangs ((var y == node b us) ∷ l) x z
+        first : Dec (0 < count x (names us)) → (z : ℕ) × Hangs ((var y ≐ node b us) ∷ l) x z
         first (yes i) = (y, record { tie = tied_head y b us l; inside = i })
-        first (no i) = rest (var y == node b us) (d (omega (arith, k, i)))
+        first (no i) = rest (var y ≐ node b us) (d (omega (arith, k, i)))
     go (node a ts) (var y) k d = first (dec_lt 0 (count x (names ts)))
       where
-        first : Dec (0 < count x (names ts)) → (z : ℕ) × Hangs ((node a ts == var y) ∷ l) x z
+        first : Dec (0 < count x (names ts)) → (z : ℕ) × Hangs ((node a ts ≐ var y) ∷ l) x z
         first (yes i) = (y, record { tie = tied_turned y a ts l; inside = i })
-        first (no i) = rest (node a ts == var y) (d (omega (arith, k, i)))
-    go (node a ts) (node b us) k d = rest (node a ts == node b us) (d (omega (arith, k)))
+        first (no i) = rest (node a ts ≐ var y) (d (omega (arith, k, i)))
+    go (node a ts) (node b us) k d = rest (node a ts ≐ node b us) (d (omega (arith, k)))
 
 -- A tie on a circle or behind one hangs on such a tie.
 behind_up : {l : List Eqn} {x : ℕ} → Behind l x → (y : ℕ) × (Hangs l x y × Behind l y)
@@ -153,17 +153,17 @@ module _ (C : Conf) (o : Once C.eqs) where
       go : (p : Pick) → PickIs x (never_met C) p → Held C x ⊎ Tied (never_met C) x
       go alone i = inl (gone_held x t i)
       go (beside u q) i =
-          let j : C.eqs ∼ (var x == u) ∷ (shared.0 ++ q) =
+          let j : C.eqs ∼ (var x ≐ u) ∷ (shared.0 ++ q) =
           step
           shared.1
           (step
           (perm_append_left Sides_equivalence shared.0 i)
-          (perm_shift Sides_equivalence shared.0 (var x == u) q)) in
+          (perm_shift Sides_equivalence shared.0 (var x ≐ u) q)) in
           inr (record {
             symbol = t.symbol;
             args = t.args;
             others = q;
-            equation = subst (λ v. never_met C ∼ (var x == v) ∷ q) (tie_same x o j t.equation) i;
+            equation = subst (λ v. never_met C ∼ (var x ≐ v) ∷ q) (tie_same x o j t.equation) i;
           })
 
 module _ (C : Conf) (v : Valid C) (o : Once C.eqs) where

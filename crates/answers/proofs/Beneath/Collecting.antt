@@ -1,7 +1,7 @@
 -- The interface is read by Collects.
 use Rattle.std.specs.Prelude.{◌≡◌, refl, List, [], ◌∷◌, ◌++◌, ℕ, ◌+◌, ◌≤◌, length}
 use Rattle.std.proofs.Common.{sym, ◌∙◌, ap, arith}
-use Rattle.calculus.specs.Terms.{one, var, Term, Terms, Eqn, ◌==◌, Conf, names, eqs_names, δ, count, ◌∼◌, if_eq}
+use Rattle.calculus.specs.Terms.{one, var, Term, Terms, Eqn, ◌≐◌, Conf, names, eqs_names, δ, count, ◌∼◌, if_eq}
 use Rattle.calculus.specs.Terms.{◌⟦◌/◌⟧}
 use Rattle.calculus.specs.Calculus.{Valid, Collect}
 use Rattle.calculus.proofs.Beneath.Count.{δ_same, sum-append, if_yes, if_no}
@@ -38,7 +38,7 @@ put c x u h =
     ))))
     ∙ ap (plug c) (if_yes u (var x) refl))
 
-pub follow : (c : Place one) → Unit {0} → (x : ℕ) (u : Term) (l r : List Eqn) → l ∼ (var x == u) ∷ r
+pub follow : (c : Place one) → Unit {0} → (x : ℕ) (u : Term) (l r : List Eqn) → l ∼ (var x ≐ u) ∷ r
     → ((z : ℕ) → count z (names (plug c (var x))) + wired z l ≤ 2)
     → Reach (plug c (var x)) l (plug c u) r
 follow c o x u l r i v = more one_collect done

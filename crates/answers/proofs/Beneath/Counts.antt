@@ -2,13 +2,13 @@
 use Rattle.std.specs.Prelude.{◌≡◌, refl, List, ℕ, ◌+◌}
 use Rattle.std.proofs.Common.{sym, ◌∙◌, ap₂, arith}
 use Rattle.std.proofs.Math.Decide.{ℕ_discrete}
-use Rattle.calculus.specs.Terms.{none, keep, swap, step, var, node, Term, Eqn, ◌==◌, Sides, ◌∼◌, if_eq}
+use Rattle.calculus.specs.Terms.{none, keep, swap, step, var, node, Term, Eqn, ◌≐◌, Sides, ◌∼◌, if_eq}
 use Rattle.calculus.proofs.Beneath.Perm.{perm_refl, perm_append, perm_exchange}
 use Rattle.calculus.proofs.Beneath.Sub.{Sides_equivalence}
 use Rattle.calculus.proofs.Beneath.Count.{if_yes, if_no}
 use Rattle.answers.specs.Answer.{stuck_pair, stuck, loop, loops, tie_agents, tied_agents}
 
-stuck_pair-sides : {t u s r : Term} → Sides (t == u) (s == r) → stuck_pair t u ∼ stuck_pair s r
+stuck_pair-sides : {t u s r : Term} → Sides (t ≐ u) (s ≐ r) → stuck_pair t u ∼ stuck_pair s r
 stuck_pair-sides {t} {u} Sides.same = perm_refl Sides_equivalence (stuck_pair t u)
 stuck_pair-sides {t} {u} Sides.turn = go t u
   where
@@ -20,11 +20,11 @@ stuck_pair-sides {t} {u} Sides.turn = go t u
 
 pub stuck-∼ : {l m : List Eqn} → l ∼ m → stuck l ∼ stuck m
 stuck-∼ none = none
-stuck-∼ (keep {a = t == u} {b = s == r} e p) = perm_append Sides_equivalence (stuck_pair-sides e) (stuck-∼ p)
-stuck-∼ (swap {a = t == u} {b = s == r} {l = l}) = perm_exchange Sides_equivalence (stuck_pair t u) (stuck_pair s r) (stuck l)
+stuck-∼ (keep {a = t ≐ u} {b = s ≐ r} e p) = perm_append Sides_equivalence (stuck_pair-sides e) (stuck-∼ p)
+stuck-∼ (swap {a = t ≐ u} {b = s ≐ r} {l = l}) = perm_exchange Sides_equivalence (stuck_pair t u) (stuck_pair s r) (stuck l)
 stuck-∼ (step p q) = step (stuck-∼ p) (stuck-∼ q)
 
-loop-sides : {t u s r : Term} → Sides (t == u) (s == r) → loop t u ≡ loop s r
+loop-sides : {t u s r : Term} → Sides (t ≐ u) (s ≐ r) → loop t u ≡ loop s r
 loop-sides Sides.same = refl
 loop-sides {t} {u} Sides.turn = go t u
   where
@@ -40,11 +40,11 @@ loop-sides {t} {u} Sides.turn = go t u
 
 pub loops-∼ : {l m : List Eqn} → l ∼ m → loops l ≡ loops m
 loops-∼ none = refl
-loops-∼ (keep {a = t == u} {b = s == r} e p) = ap₂ ◌+◌ (loop-sides e) (loops-∼ p)
-loops-∼ (swap {a = t == u} {b = s == r} {l = l}) = omega arith
+loops-∼ (keep {a = t ≐ u} {b = s ≐ r} e p) = ap₂ ◌+◌ (loop-sides e) (loops-∼ p)
+loops-∼ (swap {a = t ≐ u} {b = s ≐ r} {l = l}) = omega arith
 loops-∼ (step p q) = loops-∼ p ∙ loops-∼ q
 
-tie_agents-sides : {t u s r : Term} → Sides (t == u) (s == r) → tie_agents t u ≡ tie_agents s r
+tie_agents-sides : {t u s r : Term} → Sides (t ≐ u) (s ≐ r) → tie_agents t u ≡ tie_agents s r
 tie_agents-sides Sides.same = refl
 tie_agents-sides {t} {u} Sides.turn = go t u
   where
@@ -56,6 +56,6 @@ tie_agents-sides {t} {u} Sides.turn = go t u
 
 pub tied_agents-∼ : {l m : List Eqn} → l ∼ m → tied_agents l ≡ tied_agents m
 tied_agents-∼ none = refl
-tied_agents-∼ (keep {a = t == u} {b = s == r} e p) = ap₂ ◌+◌ (tie_agents-sides e) (tied_agents-∼ p)
-tied_agents-∼ (swap {a = t == u} {b = s == r} {l = l}) = omega arith
+tied_agents-∼ (keep {a = t ≐ u} {b = s ≐ r} e p) = ap₂ ◌+◌ (tie_agents-sides e) (tied_agents-∼ p)
+tied_agents-∼ (swap {a = t ≐ u} {b = s ≐ r} {l = l}) = omega arith
 tied_agents-∼ (step p q) = tied_agents-∼ p ∙ tied_agents-∼ q

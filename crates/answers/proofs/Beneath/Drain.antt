@@ -2,7 +2,7 @@
 use Rattle.std.specs.Prelude.{◌≡◌, refl, [], List, ◌∷◌, ◌++◌, ℕ, zero, suc, ◌≤◌, ◌<◌, length}
 use Rattle.std.proofs.Common.{sym, ◌∙◌, ap, ap₂, subst, arith}
 use Rattle.std.proofs.Math.Decide.{ℕ_discrete}
-use Rattle.calculus.specs.Terms.{none, keep, swap, step, var, Term, Eqn, ◌==◌, ◌∼◌, names, Reordered, if_eq, side, touches}
+use Rattle.calculus.specs.Terms.{none, keep, swap, step, var, Term, Eqn, ◌≐◌, ◌∼◌, names, Reordered, if_eq, side, touches}
 use Rattle.calculus.proofs.Beneath.Perm.{perm_sym, perm_of_eq, perm_cons, perm_shift, perm_exchange, perm_append_left}
 use Rattle.calculus.proofs.Beneath.Perm.{Path_equivalence, perm_length}
 use Rattle.calculus.proofs.Beneath.Sub.{Sides_equivalence}
@@ -104,13 +104,13 @@ drain-∼ zero xs l m p o = drain_by-∼ (λ ys k. k) (λ ys l m p o. p) xs l m 
 drain-∼ (suc n) xs l m p o = drain_by-∼ (drain n) (λ ys l m p o. drain-∼ n ys l m p o) xs l m p o
 
 -- The order of the names. What a name touches is picked first.
-pub pick_first : (x : ℕ) (t : Term) (l : List Eqn) → pick x ((var x == t) ∷ l) ≡ beside t l
-pick_first x t l = ap (λ o. picked (var x == t) l o (pick x l)) (if_yes (some t) (if_name x t (some (var x)) none) refl)
+pub pick_first : (x : ℕ) (t : Term) (l : List Eqn) → pick x ((var x ≐ t) ∷ l) ≡ beside t l
+pick_first x t l = ap (λ o. picked (var x ≐ t) l o (pick x l)) (if_yes (some t) (if_name x t (some (var x)) none) refl)
 
-pick_second : (x y : ℕ) (l : List Eqn) → ¬ (y ≡ x) → pick y ((var x == var y) ∷ l) ≡ beside (var x) l
+pick_second : (x y : ℕ) (l : List Eqn) → ¬ (y ≡ x) → pick y ((var x ≐ var y) ∷ l) ≡ beside (var x) l
 pick_second x y l n =
     ap
-    (λ o. picked (var x == var y) l o (pick y l))
+    (λ o. picked (var x ≐ var y) l o (pick y l))
     (if_no (some (var y)) (if_eq y y (some (var x)) none) n ∙ if_yes (some (var x)) none refl)
 
 pub beside-alike : (x : ℕ) {l m : List Eqn} {t u : Term} {r s : List Eqn} → l ∼ m → Once l → pick x l ≡ beside t r
@@ -178,7 +178,7 @@ module _ (n b : ℕ) (ih : Ordered n b) where
   -- Both are touched, in one equation or in two.
   both : (x y : ℕ) (xs : List ℕ) (l : List Eqn) → length l ≤ b → length l ≤ n → Once l → ¬ (y ≡ x)
       → (t u : Term) (r s : List Eqn)
-      → pick x l ≡ beside t r → l ∼ (var x == t) ∷ r → pick y l ≡ beside u s → l ∼ (var y == u) ∷ s
+      → pick x l ≡ beside t r → l ∼ (var x ≐ t) ∷ r → pick y l ≡ beside u s → l ∼ (var y ≐ u) ∷ s
       → drain n (x ∷ y ∷ xs) l ∼ drain n (y ∷ x ∷ xs) l
   both x y xs l a k o d t u r s e i f j = go (pick y r) refl (pick_is y r)
     where
@@ -202,7 +202,7 @@ module _ (n b : ℕ) (ih : Ordered n b) where
 
       joined : touches y r ≡ 0 → t ≡ var y → drain n (x ∷ y ∷ xs) l ∼ drain n (y ∷ x ∷ xs) l
       joined z g =
-          let w = beside-alike y (step i (≈of (ap (λ v. (var x == v) ∷ r) g))) o f (pick_second x y r d) in
+          let w = beside-alike y (step i (≈of (ap (λ v. (var x ≐ v) ∷ r) g))) o f (pick_second x y r d) in
           let x-not-r : touches x r ≡ 0 = omega (arith, o x, touches-∼ x i, δ_same x) in
           step
           left
@@ -218,7 +218,7 @@ module _ (n b : ℕ) (ih : Ordered n b) where
       go alone g z =
           joined z (is_name y t (omega (arith, z, touches-∼ y i, touches-∼ y j, δ_same y, δ_other {x = y} {y = x} d)))
       go (beside v q) g z =
-          let w = beside-alike y (step i (step (perm_cons Sides_equivalence (var x == t) z) swap)) o f (pick_first y v ((var x == t) ∷ q)) in
+          let w = beside-alike y (step i (step (perm_cons Sides_equivalence (var x ≐ t) z) swap)) o f (pick_first y v ((var x ≐ t) ∷ q)) in
           step
           left
           (step
@@ -233,13 +233,13 @@ module _ (n b : ℕ) (ih : Ordered n b) where
           (omega (arith, r-few, perm_length z))
           (rest-once z (rest-once i o)))
           (step
-          (≈of (sym (drain-tie n x (names v ++ xs) ((var x == t) ∷ q) t q (pick_first x t q) (omega (
+          (≈of (sym (drain-tie n x (names v ++ xs) ((var x ≐ t) ∷ q) t q (pick_first x t q) (omega (
             arith,
             r-few,
             perm_length z,
           )))))
           (step
-          (back (drain-∼ n (x ∷ (names v ++ xs)) s ((var x == t) ∷ q) w.1 (rest-once j o)))
+          (back (drain-∼ n (x ∷ (names v ++ xs)) s ((var x ≐ t) ∷ q) w.1 (rest-once j o)))
           (step (≈of (ap (λ c. drain n (x ∷ (names c ++ xs)) s) (sym w.0))) (back right))))))
 
   swapped : (x y : ℕ) (xs : List ℕ) (l : List Eqn) → length l ≤ b → length l ≤ n → Once l

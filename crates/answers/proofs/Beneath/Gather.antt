@@ -2,7 +2,7 @@
 use Rattle.std.specs.Prelude.{◌≡◌, refl, List, [], ◌∷◌, ◌++◌, ℕ, zero, suc, ◌+◌, ◌≤◌, ◌<◌, length}
 use Rattle.std.proofs.Common.{sym, ◌∙◌, ap, ap₂, subst, append_assoc, arith}
 use Rattle.std.proofs.Math.Decide.{ℕ_discrete, dec_lt}
-use Rattle.calculus.specs.Terms.{Sort, one, many, Tree, var, node, nil, cons, Term, Terms, Eqn, ◌==◌, names, δ, count, touches}
+use Rattle.calculus.specs.Terms.{Sort, one, many, Tree, var, node, nil, cons, Term, Terms, Eqn, ◌≐◌, names, δ, count, touches}
 use Rattle.calculus.specs.Terms.{◌∼◌, step}
 use Rattle.calculus.proofs.Beneath.Count.{δ_same, δ_other, sum-append}
 use Rattle.calculus.proofs.Beneath.Ended.{touches-∼}
@@ -28,7 +28,7 @@ module _
     (fit-within : (a : ℕ) (c : Place one) → Fit many (within a c))
     (fit-head : (ts : Terms) (c : Place many) → Fit many c → Fit one (head ts c))
     (fit-tail : (t : Term) (c : Place many) → Fit many c → Fit many (tail t c))
-    (follow : (c : Place one) → Fit one c → (x : ℕ) (u : Term) (l r : List Eqn) → l ∼ (var x == u) ∷ r
+    (follow : (c : Place one) → Fit one c → (x : ℕ) (u : Term) (l r : List Eqn) → l ∼ (var x ≐ u) ∷ r
     → ((z : ℕ) → count z (names (plug c (var x))) + wired z l ≤ 2)
     → Reach (plug c (var x)) l (plug c u) r)
   where
@@ -124,7 +124,7 @@ module _
         here z (no q) k = absurd (omega (arith, k, δ_other q))
 
     gather_joined : (x y : ℕ) (r : List Eqn) (S R : Reader) (rest : List ℕ) → Along (x ∷ rest) S R
-        → find x S.numbers ≡ unknown → S.unmet ∼ (var x == var y) ∷ r
+        → find x S.numbers ≡ unknown → S.unmet ∼ (var x ≐ var y) ∷ r
         → Made
         (var x)
         S
@@ -161,7 +161,7 @@ module _
         here z (no q) k = absurd (omega (arith, k, δ_other q))
 
     gather_tied : (n x a : ℕ) (us : Terms) (r : List Eqn) (S R : Reader) (rest : List ℕ) → Along (x ∷ rest) S R
-        → S.unmet ∼ (var x == node a us) ∷ r
+        → S.unmet ∼ (var x ≐ node a us) ∷ r
         → (Along (names us ++ rest) (record { next = S.next; numbers = S.numbers; unmet = r }) R
         → Gathered n (node a us) (record { next = S.next; numbers = S.numbers; unmet = r }) R rest)
         → (tree : Term) × Made (var x) S rest (read n (node a us) (record { next = S.next; numbers = S.numbers; unmet = r })) tree (read 0 tree R)

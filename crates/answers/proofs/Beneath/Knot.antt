@@ -2,7 +2,7 @@
 use Rattle.std.specs.Prelude.{◌≡◌, refl, [], List, ◌∷◌, ◌++◌, ℕ, zero, suc, ◌≤◌, ◌<◌, length}
 use Rattle.std.proofs.Common.{sym, ◌∙◌, ap, ap₂, subst, append_assoc, append-nil, arith}
 use Rattle.std.proofs.Math.Decide.{ℕ_discrete}
-use Rattle.calculus.specs.Terms.{none, keep, swap, step, Sort, one, Tree, var, node, nil, cons, Term, Eqn, ◌==◌, Conf, touches}
+use Rattle.calculus.specs.Terms.{none, keep, swap, step, Sort, one, Tree, var, node, nil, cons, Term, Eqn, ◌≐◌, Conf, touches}
 use Rattle.calculus.specs.Terms.{Sides, ◌∼◌, names, eqn_names, eqs_names, Reordered}
 use Rattle.calculus.proofs.Beneath.Perm.{perm_refl, perm_of_eq, perm_append, perm_exchange, Path_equivalence}
 use Rattle.calculus.proofs.Beneath.Perm.{perm_length}
@@ -163,12 +163,12 @@ read_left (suc n) t S k s =
     s
 
 -- The sides of stuck pairs in another order have their names in another order.
-two_names : (t u : Term) (l : List Eqn) → names (sides ((t == u) ∷ l)) ≡ eqn_names (t == u) ++ names (sides l)
+two_names : (t u : Term) (l : List Eqn) → names (sides ((t ≐ u) ∷ l)) ≡ eqn_names (t ≐ u) ++ names (sides l)
 two_names t u l = sym (append_assoc (names t) (names u) (names (sides l)))
 
 sides-names : (l : List Eqn) → names (sides l) ≡ eqs_names l
 sides-names [] = refl
-sides-names ((t == u) ∷ l) = two_names t u l ∙ ap (λ m. eqn_names (t == u) ++ m) (sides-names l)
+sides-names ((t ≐ u) ∷ l) = two_names t u l ∙ ap (λ m. eqn_names (t ≐ u) ++ m) (sides-names l)
 
 eqn_reordered : {d e : Eqn} → Sides d e → Reordered (eqn_names d) (eqn_names e)
 eqn_reordered {d} Sides.same = perm_refl Path_equivalence (eqn_names d)

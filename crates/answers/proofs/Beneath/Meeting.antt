@@ -1,7 +1,7 @@
 -- A name is met: the two readers go on to number alike the names that can still be met.
 use Rattle.std.specs.Prelude.{◌≡◌, List, ◌∷◌, ◌++◌, ℕ, suc, ◌+◌, ◌<◌}
 use Rattle.std.proofs.Common.{◌∙◌, ap, arith}
-use Rattle.calculus.specs.Terms.{var, node, Terms, Eqn, ◌==◌, names, δ, count, touches}
+use Rattle.calculus.specs.Terms.{var, node, Terms, Eqn, ◌≐◌, names, δ, count, touches}
 use Rattle.calculus.specs.Terms.{◌∼◌}
 use Rattle.calculus.proofs.Beneath.Count.{δ_same, sum-append, if_no}
 use Rattle.calculus.proofs.Beneath.Ended.{touches-∼}
@@ -49,7 +49,7 @@ met-alone x S R rest A i =
     }
 
 -- A name joined to another: both get the next number, and their equation is used.
-module _ (x y : ℕ) (r : List Eqn) (S R : Reader) (rest : List ℕ) (A : Along (x ∷ rest) S R) (i : S.unmet ∼ (var x == var y) ∷ r) where
+module _ (x y : ℕ) (r : List Eqn) (S R : Reader) (rest : List ℕ) (A : Along (x ∷ rest) S R) (i : S.unmet ∼ (var x ≐ var y) ∷ r) where
   pub joined_free : touches y r ≡ 0
   joined_free = omega (arith, A.once y, touches-∼ y i, δ_same y)
 
@@ -104,7 +104,7 @@ module _ (x y : ℕ) (r : List Eqn) (S R : Reader) (rest : List ℕ) (A : Along 
       }
 
 -- A name tied to a node: the node is read in its place, and their equation is used.
-module _ (x a : ℕ) (us : Terms) (r : List Eqn) (S R : Reader) (rest : List ℕ) (A : Along (x ∷ rest) S R) (i : S.unmet ∼ (var x == node a us) ∷ r) where
+module _ (x a : ℕ) (us : Terms) (r : List Eqn) (S R : Reader) (rest : List ℕ) (A : Along (x ∷ rest) S R) (i : S.unmet ∼ (var x ≐ node a us) ∷ r) where
   pub tied_wired : (z : ℕ) → wired z S.unmet ≡ δ z x + count z (names us) + wired z r
   tied_wired z = omega (arith, wired-∼ z i)
 

@@ -2,7 +2,7 @@
 use Rattle.std.specs.Prelude.{◌≡◌, refl, [], List, ◌∷◌, ◌++◌, map, ℕ, zero, suc, ◌+◌, length}
 use Rattle.std.proofs.Common.{sym, ◌∙◌, ap, ap₂}
 use Rattle.std.proofs.Math.Decide.{ℕ_discrete}
-use Rattle.calculus.specs.Terms.{Sort, one, Tree, var, node, nil, cons, Term, Terms, Eqn, ◌==◌, Conf, sub, sub_eqn}
+use Rattle.calculus.specs.Terms.{Sort, one, Tree, var, node, nil, cons, Term, Terms, Eqn, ◌≐◌, Conf, sub, sub_eqn}
 use Rattle.calculus.specs.Terms.{ren, if_eq}
 use Rattle.calculus.specs.Nets.{Renaming}
 use Rattle.calculus.proofs.Beneath.Rename.{rename}
@@ -53,7 +53,7 @@ if_name-rename π x (var y) a b = if_eq_to π x y (other_to π a) (other_to π b
 if_name-rename π x (node s ts) a b = refl
 
 pub other_rename : (π : Renaming) (x : ℕ) (e : Eqn) → other (π.to x) (sub_eqn (ren π.to) e) ≡ other_to π (other x e)
-other_rename π x (t == u) =
+other_rename π x (t ≐ u) =
     ap (if_name (π.to x) (sub (ren π.to) t) (some (sub (ren π.to) u))) (if_name-rename π x u (some t) none)
     ∙ if_name-rename π x t (some u) (if_name x u (some t) none)
 
@@ -118,7 +118,7 @@ tie_agents-rename π (node a ts) (node b us) = refl
 
 pub tied_agents-rename : (π : Renaming) (l : List Eqn) → tied_agents (eqs_to π l) ≡ tied_agents l
 tied_agents-rename π [] = refl
-tied_agents-rename π ((t == u) ∷ l) = ap₂ ◌+◌ (tie_agents-rename π t u) (tied_agents-rename π l)
+tied_agents-rename π ((t ≐ u) ∷ l) = ap₂ ◌+◌ (tie_agents-rename π t u) (tied_agents-rename π l)
 
 loop-rename : (π : Renaming) (t u : Term) → loop (sub (ren π.to) t) (sub (ren π.to) u) ≡ loop t u
 loop-rename π (var x) (var y) = if_eq_to π x y 1 0
@@ -127,7 +127,7 @@ loop-rename π (node a ts) u = refl
 
 pub loops-rename : (π : Renaming) (l : List Eqn) → loops (eqs_to π l) ≡ loops l
 loops-rename π [] = refl
-loops-rename π ((t == u) ∷ l) = ap₂ ◌+◌ (loop-rename π t u) (loops-rename π l)
+loops-rename π ((t ≐ u) ∷ l) = ap₂ ◌+◌ (loop-rename π t u) (loops-rename π l)
 
 pub length-rename : (π : Renaming) (l : List Eqn) → length (eqs_to π l) ≡ length l
 length-rename π [] = refl
@@ -141,12 +141,12 @@ stuck_pair-rename π (node a ts) (node b us) l = refl
 
 pub stuck-rename : (π : Renaming) (l : List Eqn) → stuck (eqs_to π l) ≡ eqs_to π (stuck l)
 stuck-rename π [] = refl
-stuck-rename π ((t == u) ∷ l) =
+stuck-rename π ((t ≐ u) ∷ l) =
     ap (λ m. stuck_pair (sub (ren π.to) t) (sub (ren π.to) u) ++ m) (stuck-rename π l) ∙ stuck_pair-rename π t u (stuck l)
 
 pub sides-rename : (π : Renaming) (l : List Eqn) → sides (eqs_to π l) ≡ sub (ren π.to) (sides l)
 sides-rename π [] = refl
-sides-rename π ((t == u) ∷ l) = ap (λ ts. cons (sub (ren π.to) t) (cons (sub (ren π.to) u) ts)) (sides-rename π l)
+sides-rename π ((t ≐ u) ∷ l) = ap (λ ts. cons (sub (ren π.to) t) (cons (sub (ren π.to) u) ts)) (sides-rename π l)
 
 face-rename : (π : Renaming) (C : Conf) → face_read (rename π.to C) ≡ reading_to π (face_read C)
 face-rename π C =

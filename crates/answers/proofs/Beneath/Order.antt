@@ -2,7 +2,7 @@
 use Rattle.std.specs.Prelude.{◌≡◌, refl, [], List, ◌∷◌, ◌⊎◌, ℕ, zero, suc, ◌≤◌}
 use Rattle.std.proofs.Common.{sym, ◌∙◌, ap, ap₂, subst, inl, inr, arith}
 use Rattle.calculus.specs.Terms.{Perm, none, keep, swap, step, Sort, one, Tree, var, node, nil, cons, Term, Terms, side, touch, touches}
-use Rattle.calculus.specs.Terms.{Eqn, ◌==◌, Sides, ◌∼◌, δ}
+use Rattle.calculus.specs.Terms.{Eqn, ◌≐◌, Sides, ◌∼◌, δ}
 use Rattle.calculus.proofs.Beneath.Perm.{perm_refl, perm_cons}
 use Rattle.calculus.proofs.Beneath.Sub.{Sides_equivalence, name_of}
 use Rattle.calculus.proofs.Beneath.Count.{δ-cases, if_yes, if_no}
@@ -28,7 +28,7 @@ pub other_sides : (x : ℕ) {d e : Eqn} → Sides d e → other x d ≡ other x 
 other_sides x Sides.same = refl
 other_sides x (Sides.turn {t = t} {u = u}) = go (is x t) (is x u)
   where
-    go : Is x t → Is x u → other x (t == u) ≡ other x (u == t)
+    go : Is x t → Is x u → other x (t ≐ u) ≡ other x (u ≐ t)
     go (it e s f) (it e' s' g) =
         f (some u) (if_name x u (some t) none)
         ∙ ap some (e' ∙ sym e)
@@ -46,13 +46,13 @@ other_sides x (Sides.turn {t = t} {u = u}) = go (is x t) (is x u)
 
 -- A name that touches an equation has another side there, and else none.
 pub data Touched (x : ℕ) (e : Eqn) : Type 0 where
-  touching : (t : Term) → touch x e ≡ 1 → other x e ≡ some t → Sides e (var x == t) → Touched x e
+  touching : (t : Term) → touch x e ≡ 1 → other x e ≡ some t → Sides e (var x ≐ t) → Touched x e
   apart : touch x e ≡ 0 → other x e ≡ none → Touched x e
 
 pub touched : (x : ℕ) (e : Eqn) → Touched x e
-touched x (t == u) = go (is x t) (is x u)
+touched x (t ≐ u) = go (is x t) (is x u)
   where
-    go : Is x t → Is x u → Touched x (t == u)
+    go : Is x t → Is x u → Touched x (t ≐ u)
     go (it e s f) k = touching u (omega (arith, s)) (f (some u) (if_name x u (some t) none)) (rw e Sides.same)
     go (not s f) (it e s' g) =
         touching t (omega (arith, s')) (f (some u) (if_name x u (some t) none) ∙ g (some t) none) (rw e Sides.turn)
@@ -112,7 +112,7 @@ pick-∼ x (step {l = l} {m = m} {n = n} p q) h =
 -- What was picked was there, and what has nothing to pick is untouched.
 abbrev pub PickIs : ℕ → List Eqn → Pick → Type 0
 PickIs x l alone = touches x l ≡ 0
-PickIs x l (beside t r) = l ∼ (var x == t) ∷ r
+PickIs x l (beside t r) = l ∼ (var x ≐ t) ∷ r
 
 pub pick_is : (x : ℕ) (l : List Eqn) → PickIs x l (pick x l)
 pick_is x [] = refl
@@ -144,7 +144,7 @@ pub record ReadAlike {s : Sort} (r q : Reading s) : Type 0 where
 abbrev TiedAlike : (Term → Reader → Reading one) → Type 0
 TiedAlike tied = (t : Term) (S R : Reader) → Alike S R → ReadAlike (tied t S) (tied t R)
 
-pub rest-once : {x : ℕ} {t : Term} {l r : List Eqn} → l ∼ (var x == t) ∷ r → ((z : ℕ) → touches z l ≤ 1) → (z : ℕ)
+pub rest-once : {x : ℕ} {t : Term} {l r : List Eqn} → l ∼ (var x ≐ t) ∷ r → ((z : ℕ) → touches z l ≤ 1) → (z : ℕ)
     → touches z r ≤ 1
 rest-once p h z = omega (arith, touches-∼ z p, h z)
 

@@ -2,7 +2,7 @@
 use Rattle.std.specs.Prelude.{◌≡◌, refl, List, [], ◌∷◌, ◌++◌, ◌⊎◌, ℕ, zero, suc, ◌+◌, ◌≤◌, ◌<◌, length}
 use Rattle.std.proofs.Common.{sym, ◌∙◌, ap, subst, append_assoc, inl, inr, arith}
 use Rattle.std.proofs.Math.Decide.{ℕ_discrete}
-use Rattle.calculus.specs.Terms.{Sort, one, var, node, nil, cons, Term, Terms, Eqn, ◌==◌, Conf, ◌∼◌, touch}
+use Rattle.calculus.specs.Terms.{Sort, one, var, node, nil, cons, Term, Terms, Eqn, ◌≐◌, Conf, ◌∼◌, touch}
 use Rattle.calculus.specs.Terms.{names, eqs_names, δ, count}
 use Rattle.calculus.proofs.Beneath.Count.{δ_same, δ_other, δ-cases, sum-append, if_yes, if_no}
 use Rattle.calculus.proofs.Beneath.Perm.{perm_length}
@@ -151,7 +151,7 @@ module _ (mem : ℕ → Cell) (bonds : ℕ → Bond) (n : ℕ) where
                   mem
                   (bonds z)
                   z
-                  (var x == var y)
+                  (var x ≐ var y)
                   i
                   F.once
                   (omega (arith, δ_other u.0, δ_other w.0))
@@ -170,7 +170,7 @@ module _ (mem : ℕ → Cell) (bonds : ℕ → Bond) (n : ℕ) where
         faithful = subst (λ d. Faithful mem bonds (read n (node d us) S').after rest) w.symbol q.faithful;
       }
     where
-      further : S.unmet ∼ (var x == node s us) ∷ r
+      further : S.unmet ∼ (var x ≐ node s us) ∷ r
           → Faithful mem bonds (record { next = S.next; numbers = S.numbers; unmet = r }) (names us ++ rest)
       further i =
           record {
@@ -196,7 +196,7 @@ module _ (mem : ℕ → Cell) (bonds : ℕ → Bond) (n : ℕ) where
               mem
               (bonds z)
               z
-              (var x == node s us)
+              (var x ≐ node s us)
               i
               F.once
               (omega (arith, d.1))

@@ -2,7 +2,7 @@
 use Rattle.std.specs.Prelude.{◌≡◌, refl, List, ◌∷◌, ℕ, ◌≤◌, ◌<◌, length}
 use Rattle.std.proofs.Common.{sym, ◌∙◌, ap, ap₂, subst, arith}
 use Rattle.std.proofs.Math.Decide.{dec_lt}
-use Rattle.calculus.specs.Terms.{step, var, Term, Terms, Eqn, ◌==◌, Conf, ◌∼◌, touches}
+use Rattle.calculus.specs.Terms.{step, var, Term, Terms, Eqn, ◌≐◌, Conf, ◌∼◌, touches}
 use Rattle.calculus.proofs.Beneath.Perm.{perm_refl, perm_cons, perm_length}
 use Rattle.calculus.proofs.Beneath.Sub.{Sides_equivalence}
 use Rattle.calculus.specs.Nets.{◌≈◌}
@@ -22,21 +22,21 @@ use Rattle.answers.proofs.Beneath.Order.{PickIs, pick_is, Alike, ReadAlike, read
 pub once : {B : Book} {C : Conf} → Normal (Step B) C → (x : ℕ) → touches x C.eqs ≤ 1
 once {B} {C} h x = go (dec_lt 1 (touches x C.eqs))
   where
-    second : {t : Term} {l : List Eqn} → C.eqs ∼ (var x == t) ∷ l → 1 < touches x C.eqs → (p : Pick)
+    second : {t : Term} {l : List Eqn} → C.eqs ∼ (var x ≐ t) ∷ l → 1 < touches x C.eqs → (p : Pick)
         → PickIs x l p → ⊥
     second {t} {l} e k alone i = omega (arith, k, touches-∼ x e, i)
     second {t} {l} e k (beside u r) i =
         h
         _
-        (record { face = C.face; eqs = (t == u) ∷ r })
+        (record { face = C.face; eqs = (t ≐ u) ∷ r })
         (communication
         (record {
           x = x;
           t = t;
           u = u;
           Δ = r;
-          before = step e (perm_cons Sides_equivalence (var x == t) i);
-          after = perm_refl Sides_equivalence ((t == u) ∷ r);
+          before = step e (perm_cons Sides_equivalence (var x ≐ t) i);
+          after = perm_refl Sides_equivalence ((t ≐ u) ∷ r);
           face = refl;
         }))
 

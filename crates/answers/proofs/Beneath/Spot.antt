@@ -1,7 +1,7 @@
 -- A place inside an agent of a stuck pair: the equation that it is in.
 use Rattle.std.specs.Prelude.{◌≡◌, refl, List, [], ◌∷◌, ◌++◌, ◌⊎◌, ℕ, ◌*◌, ◌≤◌}
 use Rattle.std.proofs.Common.{sym, ◌∙◌, ap, append_assoc, inl, inr, arith}
-use Rattle.calculus.specs.Terms.{Sort, one, many, Tree, node, nil, cons, Term, Terms, Eqn, ◌==◌, names, δ, count}
+use Rattle.calculus.specs.Terms.{Sort, one, many, Tree, node, nil, cons, Term, Terms, Eqn, ◌≐◌, names, δ, count}
 use Rattle.calculus.specs.Terms.{Sides, keep, step, ◌∼◌}
 use Rattle.calculus.proofs.Beneath.Count.{sum-append}
 use Rattle.calculus.proofs.Beneath.Perm.{perm_shift}
@@ -13,12 +13,12 @@ use Rattle.answers.proofs.Beneath.Along.{size}
 -- Terms two by two. (A term too many, which no list of pairs has, stands in an equation too.)
 abbrev pub paired : Terms → List Eqn
 paired nil = []
-paired (cons t nil) = (t == node 0 nil) ∷ []
-paired (cons t (cons u ts)) = (t == u) ∷ paired ts
+paired (cons t nil) = (t ≐ node 0 nil) ∷ []
+paired (cons t (cons u ts)) = (t ≐ u) ∷ paired ts
 
 pub paired-sides : (l : List Eqn) → paired (sides l) ≡ l
 paired-sides [] = refl
-paired-sides ((t == u) ∷ l) = ap (λ m. (t == u) ∷ m) (paired-sides l)
+paired-sides ((t ≐ u) ∷ l) = ap (λ m. (t ≐ u) ∷ m) (paired-sides l)
 
 pub sides-paired : (k : ℕ) (ts : Terms) → size ts ≡ 2 * k → sides (paired ts) ≡ ts
 sides-paired k nil e = refl
@@ -115,7 +115,7 @@ pub data Before (c : Place many) : Type 0 where
 pub record SideAt (c : Place one) : Type 0 where
   pub fellow : Term
   pub others : List Eqn
-  pub equation : (w : Term) → paired (plug c w) ∼ (w == fellow) ∷ others
+  pub equation : (w : Term) → paired (plug c w) ∼ (w ≐ fellow) ∷ others
 
 abbrev pub Stands : (s : Sort) → Place s → Type 0
 Stands one c = SideAt c
@@ -124,20 +124,20 @@ Stands many c = Before c
 after_term : (t : Term) (c : Place many) → Before c → Before (tail t c)
 after_term t c (even K h) = odd K t (λ ws. h (cons t ws))
 after_term t c (odd K u h) =
-    even (K ++ ((u == t) ∷ [])) (λ ws. h (cons t ws) ∙ sym (append_assoc K ((u == t) ∷ []) (paired ws)))
+    even (K ++ ((u ≐ t) ∷ [])) (λ ws. h (cons t ws) ∙ sym (append_assoc K ((u ≐ t) ∷ []) (paired ws)))
 
 at_term : (ts : Terms) (c : Place many) → Before c → SideAt (head ts c)
 at_term nil c (even K h) =
     record {
       fellow = node 0 nil;
       others = K ++ [];
-      equation = λ w. step (≈of (h (cons w nil))) (perm_shift Sides_equivalence K (w == node 0 nil) []);
+      equation = λ w. step (≈of (h (cons w nil))) (perm_shift Sides_equivalence K (w ≐ node 0 nil) []);
     }
 at_term (cons u ts) c (even K h) =
     record {
       fellow = u;
       others = K ++ paired ts;
-      equation = λ w. step (≈of (h (cons w (cons u ts)))) (perm_shift Sides_equivalence K (w == u) (paired ts));
+      equation = λ w. step (≈of (h (cons w (cons u ts)))) (perm_shift Sides_equivalence K (w ≐ u) (paired ts));
     }
 at_term ts c (odd K u h) =
     record {
@@ -147,7 +147,7 @@ at_term ts c (odd K u h) =
           λ w.
           step
           (≈of (h (cons w ts)))
-          (step (perm_shift Sides_equivalence K (u == w) (paired ts)) (keep Sides.turn (whole (K ++ paired ts))));
+          (step (perm_shift Sides_equivalence K (u ≐ w) (paired ts)) (keep Sides.turn (whole (K ++ paired ts))));
     }
 
 pub stands : {s : Sort} (c : Place s) → Flat c → Stands s c

@@ -2,7 +2,7 @@
 use Rattle.std.specs.Prelude.{◌≡◌, refl, List, [], ◌∷◌, ◌++◌, ℕ, zero, suc, ◌<◌}
 use Rattle.std.proofs.Common.{sym, ◌∙◌, ap, ap₂, subst, append_assoc, append-nil}
 use Rattle.std.proofs.Math.Decide.{dec_lt}
-use Rattle.calculus.specs.Terms.{Term, Terms, Eqn, ◌==◌}
+use Rattle.calculus.specs.Terms.{Term, Terms, Eqn, ◌≐◌}
 use Rattle.calculus.proofs.Beneath.Count.{first_term, rest_terms}
 use Rattle.parts.specs.Sides.{Side, name, cell, Pair, ◌:=◌}
 use Rattle.parts.specs.Limits.{names_max}
@@ -72,7 +72,7 @@ held-pairs rs mem ((cell a := cell b) ∷ l) h = ap (λ k. cell a ∷ cell b ∷
 
 stuck-append : (l m : List Eqn) → stuck (l ++ m) ≡ stuck l ++ stuck m
 stuck-append [] m = refl
-stuck-append ((t == u) ∷ l) m =
+stuck-append ((t ≐ u) ∷ l) m =
     ap (λ k. stuck_pair t u ++ k) (stuck-append l m)
     ∙ sym (append_assoc (stuck_pair t u) (stuck l) (stuck m))
 

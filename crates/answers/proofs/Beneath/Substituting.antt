@@ -2,7 +2,7 @@
 use Rattle.std.specs.Prelude.{◌≡◌, List, [], ◌∷◌, ◌++◌, ◌⊎◌, ℕ, ◌+◌, ◌*◌, ◌≤◌, ◌<◌, length}
 use Rattle.std.proofs.Math.Path.{refl, sym, ap}
 use Rattle.std.proofs.Common.{◌∙◌, subst, inl, inr, arith}
-use Rattle.calculus.specs.Terms.{one, var, node, Term, Terms, Eqn, ◌==◌, Conf, names, δ, count, none, keep, swap, touch, touches}
+use Rattle.calculus.specs.Terms.{one, var, node, Term, Terms, Eqn, ◌≐◌, Conf, names, δ, count, none, keep, swap, touch, touches}
 use Rattle.calculus.specs.Terms.{step, Sides, ◌∼◌, ◌⟦◌/◌⟧}
 use Rattle.calculus.specs.Calculus.{Valid, Substitution}
 use Rattle.calculus.proofs.Beneath.Count.{δ_same, sum-append}
@@ -23,13 +23,13 @@ use Rattle.answers.proofs.Beneath.Wired.{wired, wired-∼}
 
 -- The equations that are no stuck pairs.
 abbrev tie : Term → Term → List Eqn
-tie (var x) u = (var x == u) ∷ []
-tie (node a ts) (var y) = (node a ts == var y) ∷ []
+tie (var x) u = (var x ≐ u) ∷ []
+tie (node a ts) (var y) = (node a ts ≐ var y) ∷ []
 tie (node a ts) (node b us) = []
 
 abbrev ties : List Eqn → List Eqn
 ties [] = []
-ties ((t == u) ∷ l) = tie t u ++ ties l
+ties ((t ≐ u) ∷ l) = tie t u ++ ties l
 
 tie-turn : (t u : Term) → tie t u ∼ tie u t
 tie-turn (var x) (var y) = keep Sides.turn none
@@ -37,40 +37,40 @@ tie-turn (var x) (node b us) = keep Sides.turn none
 tie-turn (node a ts) (var y) = keep Sides.turn none
 tie-turn (node a ts) (node b us) = none
 
-tie-sides : {t u s r : Term} → Sides (t == u) (s == r) → tie t u ∼ tie s r
+tie-sides : {t u s r : Term} → Sides (t ≐ u) (s ≐ r) → tie t u ∼ tie s r
 tie-sides {t} {u} Sides.same = whole (tie t u)
 tie-sides {t} {u} Sides.turn = tie-turn t u
 
 ties-∼ : {l m : List Eqn} → l ∼ m → ties l ∼ ties m
 ties-∼ none = none
-ties-∼ (keep {a = t == u} {b = s == r} e p) = perm_append Sides_equivalence (tie-sides e) (ties-∼ p)
-ties-∼ (swap {a = t == u} {b = s == r} {l = l}) = perm_exchange Sides_equivalence (tie t u) (tie s r) (ties l)
+ties-∼ (keep {a = t ≐ u} {b = s ≐ r} e p) = perm_append Sides_equivalence (tie-sides e) (ties-∼ p)
+ties-∼ (swap {a = t ≐ u} {b = s ≐ r} {l = l}) = perm_exchange Sides_equivalence (tie t u) (tie s r) (ties l)
 ties-∼ (step p q) = step (ties-∼ p) (ties-∼ q)
 
 -- Equations are stuck pairs and others.
 parted : (l : List Eqn) → l ∼ stuck l ++ ties l
 parted [] = none
-parted ((t == u) ∷ l) = go t u (parted l)
+parted ((t ≐ u) ∷ l) = go t u (parted l)
   where
-    go : (t u : Term) → l ∼ stuck l ++ ties l → (t == u) ∷ l ∼ (stuck_pair t u ++ stuck l) ++ (tie t u ++ ties l)
-    go (var x) u h = step (on (var x == u) h) (back (perm_shift Sides_equivalence (stuck l) (var x == u) (ties l)))
+    go : (t u : Term) → l ∼ stuck l ++ ties l → (t ≐ u) ∷ l ∼ (stuck_pair t u ++ stuck l) ++ (tie t u ++ ties l)
+    go (var x) u h = step (on (var x ≐ u) h) (back (perm_shift Sides_equivalence (stuck l) (var x ≐ u) (ties l)))
     go (node a ts) (var y) h =
-        step (on (node a ts == var y) h) (back (perm_shift Sides_equivalence (stuck l) (node a ts == var y) (ties l)))
-    go (node a ts) (node b us) h = on (node a ts == node b us) h
+        step (on (node a ts ≐ var y) h) (back (perm_shift Sides_equivalence (stuck l) (node a ts ≐ var y) (ties l)))
+    go (node a ts) (node b us) h = on (node a ts ≐ node b us) h
 
 touches-ties : (z : ℕ) (l : List Eqn) → touches z (ties l) ≡ touches z l
 touches-ties z [] = refl
-touches-ties z ((t == u) ∷ l) = go t u (touches-ties z l)
+touches-ties z ((t ≐ u) ∷ l) = go t u (touches-ties z l)
   where
     go : (t u : Term) → touches z (ties l) ≡ touches z l
-        → touches z (tie t u ++ ties l) ≡ touch z (t == u) + touches z l
+        → touches z (tie t u ++ ties l) ≡ touch z (t ≐ u) + touches z l
     go (var x) u h = omega (arith, h)
     go (node a ts) (var y) h = omega (arith, h)
     go (node a ts) (node b us) h = omega (arith, h)
 
 agents-ties : (l : List Eqn) → tied_agents (ties l) ≡ tied_agents l
 agents-ties [] = refl
-agents-ties ((t == u) ∷ l) = go t u (agents-ties l)
+agents-ties ((t ≐ u) ∷ l) = go t u (agents-ties l)
   where
     go : (t u : Term) → tied_agents (ties l) ≡ tied_agents l
         → tied_agents (tie t u ++ ties l) ≡ tie_agents t u + tied_agents l
@@ -80,7 +80,7 @@ agents-ties ((t == u) ∷ l) = go t u (agents-ties l)
 
 stuck-allowed : (l : List Eqn) → Allowed ⊥ (sides (stuck l))
 stuck-allowed [] = tt
-stuck-allowed ((t == u) ∷ l) = go t u (stuck-allowed l)
+stuck-allowed ((t ≐ u) ∷ l) = go t u (stuck-allowed l)
   where
     go : (t u : Term) → Allowed ⊥ (sides (stuck l)) → Allowed ⊥ (sides (stuck_pair t u ++ stuck l))
     go (var x) u h = h
@@ -89,16 +89,16 @@ stuck-allowed ((t == u) ∷ l) = go t u (stuck-allowed l)
 
 agents-stuck : (l : List Eqn) → Allowed ⊥ (sides l) → stuck l ≡ l
 agents-stuck [] h = refl
-agents-stuck ((t == u) ∷ l) h = go t u h.0 h.1.0 (agents-stuck l h.1.1)
+agents-stuck ((t ≐ u) ∷ l) h = go t u h.0 h.1.0 (agents-stuck l h.1.1)
   where
-    go : (t u : Term) → Allowed ⊥ t → Allowed ⊥ u → stuck l ≡ l → stuck_pair t u ++ stuck l ≡ (t == u) ∷ l
+    go : (t u : Term) → Allowed ⊥ t → Allowed ⊥ u → stuck l ≡ l → stuck_pair t u ++ stuck l ≡ (t ≐ u) ∷ l
     go (var x) u h k e = absurd h
     go (node a ts) (var y) h k e = absurd k
-    go (node a ts) (node b us) h k e = ap (λ m. (node a ts == node b us) ∷ m) e
+    go (node a ts) (node b us) h k e = ap (λ m. (node a ts ≐ node b us) ∷ m) e
 
 pub sides-size : (l : List Eqn) → size (sides l) ≡ 2 * length l
 sides-size [] = refl
-sides-size ((t == u) ∷ l) = omega (arith, sides-size l)
+sides-size ((t ≐ u) ∷ l) = omega (arith, sides-size l)
 
 abbrev net : Terms → List Eqn → Conf
 net ts l = record { face = ts; eqs = l }
@@ -142,7 +142,7 @@ module _ (F : Terms) where
   abbrev Reach : Terms → List Eqn → Terms → List Eqn → Type 0
   Reach ts l us m = Substitutes (shape ts l) (shape us m)
 
-  follow : (c : Place one) → Inside c → (x : ℕ) (u : Term) (l r : List Eqn) → l ∼ (var x == u) ∷ r
+  follow : (c : Place one) → Inside c → (x : ℕ) (u : Term) (l r : List Eqn) → l ∼ (var x ≐ u) ∷ r
       → ((z : ℕ) → count z (names (plug c (var x))) + wired z l ≤ 2) → Reach (plug c (var x)) l (plug c u) r
   follow c o x u l r i v = go (spot c)
     where
@@ -153,7 +153,7 @@ module _ (F : Terms) where
           e : SideAt p.outer
           e = stands p.outer p.flat
 
-          at : (t : Term) → paired (plug c t) ∼ (node p.α (plug p.inner t) == e.fellow) ∷ e.others
+          at : (t : Term) → paired (plug c t) ∼ (node p.α (plug p.inner t) ≐ e.fellow) ∷ e.others
           at t = step (≈of (ap paired (p.equal t))) (e.equation (node p.α (plug p.inner t)))
 
           one_substitution : Substitution (shape (plug c (var x)) l) (shape (plug c u) r)
@@ -171,13 +171,13 @@ module _ (F : Terms) where
                     (perm_append Sides_equivalence (at (var x)) (ties-∼ i))
                     (perm_shift
                     Sides_equivalence
-                    ((node p.α (plug p.inner (var x)) == e.fellow) ∷ e.others)
-                    (var x == u)
+                    ((node p.α (plug p.inner (var x)) ≐ e.fellow) ∷ e.others)
+                    (var x ≐ u)
                     (ties r));
                 after =
                     step
                     (perm_append_right Sides_equivalence (ties r) (at u))
-                    (≈of (ap (λ w. (node p.α w == e.fellow) ∷ (e.others ++ ties r)) placed));
+                    (≈of (ap (λ w. (node p.α w ≐ e.fellow) ∷ (e.others ++ ties r)) placed));
                 face = refl;
               }
             where

@@ -3,7 +3,7 @@ use Rattle.std.specs.Prelude.{◌≡◌, refl, List, [], ◌∷◌, ◌++◌, �
 use Rattle.std.proofs.Common.{◌∙◌, ap, ap₂, arith, length-append}
 use Rattle.std.proofs.Math.Decide.{dec_lt}
 use Rattle.std.proofs.Math.Seq.{take-length}
-use Rattle.calculus.specs.Terms.{Terms, Term, nil, cons, Eqn, ◌==◌, δ, count, if_eq}
+use Rattle.calculus.specs.Terms.{Terms, Term, nil, cons, Eqn, ◌≐◌, δ, count, if_eq}
 use Rattle.calculus.proofs.Beneath.Count.{δ_same, first_term, rest_terms, sum-append, if_yes, if_no}
 use Rattle.parts.specs.Limits.{names_max}
 use Rattle.parts.specs.Sides.{Side, name, cell, Pair, ◌:=◌}
@@ -77,7 +77,7 @@ cells-are-agents {T} {st} s =
 
     eqs-append : (l m : List Eqn) → eqs_agents (l ++ m) ≡ eqs_agents l + eqs_agents m
     eqs-append [] m = omega arith
-    eqs-append ((t == u) ∷ l) m = omega (arith, eqs-append l m)
+    eqs-append ((t ≐ u) ∷ l) m = omega (arith, eqs-append l m)
 
     no_agents : (range k : ℕ) → eqs_agents (circles range k) ≡ 0
     no_agents range zero = refl
@@ -106,7 +106,7 @@ stuck-many {st = st} s e =
   where
     sides-many : (l : List Eqn) → terms_in (sides l) ≡ 2 * length l
     sides-many [] = refl
-    sides-many ((t == u) ∷ l) = omega (arith, sides-many l)
+    sides-many ((t ≐ u) ∷ l) = omega (arith, sides-many l)
 
     pairs-many : (l : List Pair) → length (pair_sides l) ≡ 2 * length l
     pairs-many [] = refl
@@ -182,7 +182,7 @@ loops-many {T} {st} s e =
 
     loops-append : (l m : List Eqn) → loops (l ++ m) ≡ loops l + loops m
     loops-append [] m = omega arith
-    loops-append ((t == u) ∷ l) m = omega (arith, loops-append l m)
+    loops-append ((t ≐ u) ∷ l) m = omega (arith, loops-append l m)
 
     loops-circles : (range k : ℕ) → loops (circles range k) ≡ k
     loops-circles range zero = refl

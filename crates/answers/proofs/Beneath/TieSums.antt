@@ -1,7 +1,7 @@
 -- Sums over the ties of some equations, and over the ties of two parts of them.
 use Rattle.std.specs.Prelude.{◌≡◌, refl, List, [], ◌∷◌, ◌++◌, ℕ, suc, ◌+◌}
 use Rattle.std.proofs.Common.{◌∙◌, ap₂, arith}
-use Rattle.calculus.specs.Terms.{none, keep, swap, step, var, node, Term, Eqn, ◌==◌, Sides, ◌∼◌}
+use Rattle.calculus.specs.Terms.{none, keep, swap, step, var, node, Term, Eqn, ◌≐◌, Sides, ◌∼◌}
 use Rattle.calculus.proofs.Beneath.Perm.{perm_append_left, perm_append_right, perm_shift}
 use Rattle.calculus.proofs.Beneath.Sub.{Sides_equivalence, whole}
 use Rattle.answers.specs.Answer.{agents, tie_agents, tied_agents}
@@ -29,7 +29,7 @@ tied_second k m p x t =
           p
           (step
           (perm_append_left Sides_equivalence k t.equation)
-          (perm_shift Sides_equivalence k (var x == node t.symbol t.args) t.others));
+          (perm_shift Sides_equivalence k (var x ≐ node t.symbol t.args) t.others));
     }
 
 -- The sum of some function of the name and the number of agents.
@@ -42,9 +42,9 @@ module _ (g : ℕ → ℕ → ℕ) where
 
   abbrev pub ties_sum : List Eqn → ℕ
   ties_sum [] = 0
-  ties_sum ((t == u) ∷ l) = tie_sum t u + ties_sum l
+  ties_sum ((t ≐ u) ∷ l) = tie_sum t u + ties_sum l
 
-  tie_sum-sides : {t u s r : Term} → Sides (t == u) (s == r) → tie_sum t u ≡ tie_sum s r
+  tie_sum-sides : {t u s r : Term} → Sides (t ≐ u) (s ≐ r) → tie_sum t u ≡ tie_sum s r
   tie_sum-sides Sides.same = refl
   tie_sum-sides {t} {u} Sides.turn = go t u
     where
@@ -56,21 +56,21 @@ module _ (g : ℕ → ℕ → ℕ) where
 
   pub ties_sum-∼ : {l m : List Eqn} → l ∼ m → ties_sum l ≡ ties_sum m
   ties_sum-∼ none = refl
-  ties_sum-∼ (keep {a = t == u} {b = s == r} e p) = ap₂ ◌+◌ (tie_sum-sides e) (ties_sum-∼ p)
-  ties_sum-∼ (swap {a = t == u} {b = s == r} {l = l}) = omega arith
+  ties_sum-∼ (keep {a = t ≐ u} {b = s ≐ r} e p) = ap₂ ◌+◌ (tie_sum-sides e) (ties_sum-∼ p)
+  ties_sum-∼ (swap {a = t ≐ u} {b = s ≐ r} {l = l}) = omega arith
   ties_sum-∼ (step p q) = ties_sum-∼ p ∙ ties_sum-∼ q
 
   pub ties_sum-append : (l m : List Eqn) → ties_sum (l ++ m) ≡ ties_sum l + ties_sum m
   ties_sum-append [] m = omega arith
-  ties_sum-append ((t == u) ∷ l) m = omega (arith, ties_sum-append l m)
+  ties_sum-append ((t ≐ u) ∷ l) m = omega (arith, ties_sum-append l m)
 
   -- Where the function counts each tie in full, and where it counts none.
   pub all_counted : (l : List Eqn) → ((x n : ℕ) → Tied l x → g x n ≡ n) → ties_sum l ≡ tied_agents l
   all_counted [] h = refl
-  all_counted ((t == u) ∷ l) h =
-      ap₂ ◌+◌ (go t u h) (all_counted l (λ x n k. h x n (tied_more (whole ((t == u) ∷ l)) k)))
+  all_counted ((t ≐ u) ∷ l) h =
+      ap₂ ◌+◌ (go t u h) (all_counted l (λ x n k. h x n (tied_more (whole ((t ≐ u) ∷ l)) k)))
     where
-      go : (t u : Term) → ((x n : ℕ) → Tied ((t == u) ∷ l) x → g x n ≡ n) → tie_sum t u ≡ tie_agents t u
+      go : (t u : Term) → ((x n : ℕ) → Tied ((t ≐ u) ∷ l) x → g x n ≡ n) → tie_sum t u ≡ tie_agents t u
       go (var x) (var y) h = refl
       go (var x) (node b us) h = h x (suc (agents us)) (tied_head x b us l)
       go (node a ts) (var y) h = h y (suc (agents ts)) (tied_turned y a ts l)
@@ -78,10 +78,10 @@ module _ (g : ℕ → ℕ → ℕ) where
 
   pub none_counted : (l : List Eqn) → ((x n : ℕ) → Tied l x → g x n ≡ 0) → ties_sum l ≡ 0
   none_counted [] h = refl
-  none_counted ((t == u) ∷ l) h =
-      ap₂ ◌+◌ (go t u h) (none_counted l (λ x n k. h x n (tied_more (whole ((t == u) ∷ l)) k)))
+  none_counted ((t ≐ u) ∷ l) h =
+      ap₂ ◌+◌ (go t u h) (none_counted l (λ x n k. h x n (tied_more (whole ((t ≐ u) ∷ l)) k)))
     where
-      go : (t u : Term) → ((x n : ℕ) → Tied ((t == u) ∷ l) x → g x n ≡ 0) → tie_sum t u ≡ 0
+      go : (t u : Term) → ((x n : ℕ) → Tied ((t ≐ u) ∷ l) x → g x n ≡ 0) → tie_sum t u ≡ 0
       go (var x) (var y) h = refl
       go (var x) (node b us) h = h x (suc (agents us)) (tied_head x b us l)
       go (node a ts) (var y) h = h y (suc (agents ts)) (tied_turned y a ts l)

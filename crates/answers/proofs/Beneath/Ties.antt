@@ -2,7 +2,7 @@
 use Rattle.std.specs.Prelude.{◌≡◌, refl, List, [], ◌∷◌, ◌++◌, ◌⊎◌, ℕ, zero, suc, ◌≤◌, ◌<◌, length}
 use Rattle.std.proofs.Common.{sym, ◌∙◌, ap, subst, inl, inr, arith}
 use Rattle.std.proofs.Math.Decide.{ℕ_discrete, dec_lt}
-use Rattle.calculus.specs.Terms.{keep, swap, step, var, node, Term, Terms, Eqn, ◌==◌, Sides, ◌∼◌, names, δ, count, touches}
+use Rattle.calculus.specs.Terms.{keep, swap, step, var, node, Term, Terms, Eqn, ◌≐◌, Sides, ◌∼◌, names, δ, count, touches}
 use Rattle.calculus.proofs.Beneath.Perm.{perm_length}
 use Rattle.calculus.proofs.Beneath.Sub.{back, on, whole}
 use Rattle.calculus.proofs.Beneath.Count.{δ_same, δ_other, sum-append}
@@ -15,32 +15,32 @@ use Rattle.answers.proofs.Beneath.Drain.{beside-alike, is_name}
 use Rattle.answers.proofs.Beneath.Knot.{drain-within}
 
 -- A name is a side of one equation only.
-pub tie_same : (x : ℕ) {l r s : List Eqn} {t u : Term} → Once l → l ∼ (var x == t) ∷ r → l ∼ (var x == u) ∷ s → t ≡ u
+pub tie_same : (x : ℕ) {l r s : List Eqn} {t u : Term} → Once l → l ∼ (var x ≐ t) ∷ r → l ∼ (var x ≐ u) ∷ s → t ≡ u
 tie_same x {r = r} {s = s} {t = t} {u = u} o i j =
     (beside-alike x (step (back i) j) (λ z. omega (arith, o z, touches-∼ z i)) (pick_first x t r) (pick_first x u s)).0
 
 -- A tie that comes first, and one that stays where another equation is taken out.
-abbrev pub tied_head : (x b : ℕ) (us : Terms) (l : List Eqn) → Tied ((var x == node b us) ∷ l) x
-tied_head x b us l = record { symbol = b; args = us; others = l; equation = whole ((var x == node b us) ∷ l) }
+abbrev pub tied_head : (x b : ℕ) (us : Terms) (l : List Eqn) → Tied ((var x ≐ node b us) ∷ l) x
+tied_head x b us l = record { symbol = b; args = us; others = l; equation = whole ((var x ≐ node b us) ∷ l) }
 
-abbrev pub tied_turned : (x b : ℕ) (us : Terms) (l : List Eqn) → Tied ((node b us == var x) ∷ l) x
+abbrev pub tied_turned : (x b : ℕ) (us : Terms) (l : List Eqn) → Tied ((node b us ≐ var x) ∷ l) x
 tied_turned x b us l = record { symbol = b; args = us; others = l; equation = keep Sides.turn (whole l) }
 
-pub tied_rest : (x : ℕ) (t : Term) {l r : List Eqn} {z : ℕ} → Once l → l ∼ (var x == t) ∷ r → (h : Tied l z)
-    → ¬ (z ≡ x) → (q : List Eqn) × (r ∼ (var z == node h.symbol h.args) ∷ q)
+pub tied_rest : (x : ℕ) (t : Term) {l r : List Eqn} {z : ℕ} → Once l → l ∼ (var x ≐ t) ∷ r → (h : Tied l z)
+    → ¬ (z ≡ x) → (q : List Eqn) × (r ∼ (var z ≐ node h.symbol h.args) ∷ q)
 tied_rest x t {l} {r} {z} o i h d = go (pick z r) (pick_is z r)
   where
-    turned : t ≡ var z → l ∼ (var z == var x) ∷ r
-    turned e = step (subst (λ v. l ∼ (var x == v) ∷ r) e i) (keep Sides.turn (whole r))
+    turned : t ≡ var z → l ∼ (var z ≐ var x) ∷ r
+    turned e = step (subst (λ v. l ∼ (var x ≐ v) ∷ r) e i) (keep Sides.turn (whole r))
 
     z-side : touches z r ≡ 0 → t ≡ var z
     z-side k = is_name z t (omega (arith, k, touches-∼ z i, touches-∼ z h.equation, δ_same z, δ_other d))
 
-    go : (p : Pick) → PickIs z r p → (q : List Eqn) × (r ∼ (var z == node h.symbol h.args) ∷ q)
+    go : (p : Pick) → PickIs z r p → (q : List Eqn) × (r ∼ (var z ≐ node h.symbol h.args) ∷ q)
     go alone k = absurd (var-node (tie_same z o (turned (z-side k)) h.equation))
     go (beside u q) k =
-        let e = tie_same z o (step i (step (on (var x == t) k) swap)) h.equation in
-        (q, subst (λ v. r ∼ (var z == v) ∷ q) e k)
+        let e = tie_same z o (step i (step (on (var x ≐ t) k) swap)) h.equation in
+        (q, subst (λ v. r ∼ (var z ≐ v) ∷ q) e k)
 
 pub tied_more : {e : Eqn} {l r : List Eqn} {x : ℕ} → l ∼ e ∷ r → Tied r x → Tied l x
 tied_more {e} i h =
@@ -114,8 +114,8 @@ settles_more n b ih (x ∷ xs) l a k o = go (pick x l) refl (pick_is x l) (settl
         second : (w y : ℕ) → Hangs l w y → touches y (drain n (names t ++ xs) r) ≡ 0 → Dec (y ≡ x)
             → touches w (drain n (names t ++ xs) r) ≡ 0
         second w y h f (yes q) =
-            let j : l ∼ (var x == node h.tie.symbol h.tie.args) ∷ h.tie.others =
-            subst (λ v. l ∼ (var v == node h.tie.symbol h.tie.args) ∷ h.tie.others) q h.tie.equation in
+            let j : l ∼ (var x ≐ node h.tie.symbol h.tie.args) ∷ h.tie.others =
+            subst (λ v. l ∼ (var v ≐ node h.tie.symbol h.tie.args) ∷ h.tie.others) q h.tie.equation in
             s.named w (omega (
               arith,
               h.inside,
@@ -176,15 +176,15 @@ module _ (P : ℕ → Type 0) where
           inside : (w : ℕ) (u : Term) → t ≡ u → 0 < count w (names u) → P w ⊎ (touches w r ≡ 0)
           inside w (var y) c m = same (ℕ_discrete w y)
             where
-              j : l ∼ (var x == var y) ∷ r
-              j = subst (λ v. l ∼ (var x == v) ∷ r) c i
+              j : l ∼ (var x ≐ var y) ∷ r
+              j = subst (λ v. l ∼ (var x ≐ v) ∷ r) c i
 
               same : Dec (w ≡ y) → P w ⊎ (touches w r ≡ 0)
               same (yes v) =
                   inr (ap (λ u. touches u r) v ∙ omega (arith, o y, touches-∼ y j, δ_same y))
               same (no v) = absurd (omega (arith, m, δ_other v))
           inside w (node b us) c m =
-              let j : l ∼ (var x == node b us) ∷ r = subst (λ v. l ∼ (var x == v) ∷ r) c i in
+              let j : l ∼ (var x ≐ node b us) ∷ r = subst (λ v. l ∼ (var x ≐ v) ∷ r) c i in
               let tie : Tied l x = record { symbol = b; args = us; others = r; equation = j } in
               inl (g w x (record { tie = tie; inside = m }) x-holds)
 
@@ -235,7 +235,7 @@ drain_by_shared f h (x ∷ xs) l = go (pick x l) (pick_is x l) (drain_by_shared 
     go : (p : Pick) → PickIs x l p → Shared l (drain_by f xs l) → Shared l (went f xs p (drain_by f xs l))
     go alone i w = w
     go (beside t r) i w =
-        let v = h (names t ++ xs) r in ((var x == t) ∷ v.0, step i (on (var x == t) v.1))
+        let v = h (names t ++ xs) r in ((var x ≐ t) ∷ v.0, step i (on (var x ≐ t) v.1))
 
 pub drain_shared : (n : ℕ) (xs : List ℕ) (l : List Eqn) → (k : List Eqn) × (l ∼ k ++ drain n xs l)
 drain_shared zero xs l = drain_by_shared (λ ys m. m) (λ ys m. ([], whole m)) xs l

@@ -1,7 +1,7 @@
 -- Each agent of a net is printed once or is in the knot; and the number that bounds a reading never cuts it short.
 use Rattle.std.specs.Prelude.{◌≡◌, refl, [], List, ◌∷◌, ◌++◌, ℕ, zero, suc, ◌+◌, ◌≤◌, ◌<◌, length}
 use Rattle.std.proofs.Common.{◌∙◌, ap, arith}
-use Rattle.calculus.specs.Terms.{Sort, one, Tree, var, node, nil, cons, Term, Eqn, ◌==◌, Conf}
+use Rattle.calculus.specs.Terms.{Sort, one, Tree, var, node, nil, cons, Term, Eqn, ◌≐◌, Conf}
 use Rattle.calculus.proofs.Beneath.Perm.{perm_length}
 use Rattle.answers.specs.Answer.{eqs_agents, net_agents, Pick, alone, beside, pick, Found, unknown, known, find}
 use Rattle.answers.specs.Answer.{Reader, Reading, named, agent, then, read_by, read, stuck_pair, stuck, sides}
@@ -74,7 +74,7 @@ pair-agents (node a ts) (node b us) l = omega arith
 
 pub stuck-agents : (l : List Eqn) → agents (sides (stuck l)) + tied_agents l ≡ eqs_agents l
 stuck-agents [] = refl
-stuck-agents ((t == u) ∷ l) = omega (arith, pair-agents t u (stuck l), stuck-agents l)
+stuck-agents ((t ≐ u) ∷ l) = omega (arith, pair-agents t u (stuck l), stuck-agents l)
 
 -- Each agent of a net is printed once, or it is in the knot.
 pub all_told : (C : Conf) → agents (answer C).face + agents (answer C).pairs + (answer C).knot ≡ net_agents C

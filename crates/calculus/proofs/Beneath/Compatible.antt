@@ -2,7 +2,7 @@
 use Rattle.std.proofs.Common.{◌∙◌, ap, ap₂, arith}
 use Rattle.std.specs.Prelude.{◌∷◌, ◌++◌, map, ℕ}
 use Rattle.std.proofs.lemmas.List.{map-append}
-use Rattle.calculus.specs.Terms.{node, Term, ◌==◌, Conf, step, sub, sub_eqn, ren}
+use Rattle.calculus.specs.Terms.{node, Term, ◌≐◌, Conf, step, sub, sub_eqn, ren}
 use Rattle.calculus.specs.Calculus.{Valid, Rule, Book, Sound, Communication, Interaction}
 use Rattle.calculus.specs.Calculus.{Label, Step, communication, interaction}
 use Rattle.calculus.specs.Nets.{◌≈◌}
@@ -47,7 +47,7 @@ module _ {C C' : Conf} (h : C ≈ C') where
             (sub-∼ ρ c.before)
             (≈of
             (ap₂
-            (λ ts us. (node r.left ts == node r.right us) ∷ map (sub_eqn ρ) c.Δ)
+            (λ ts us. (node r.left ts ≐ node r.right us) ∷ map (sub_eqn ρ) c.Δ)
             (sub-terms ρ c.σ r.xs)
             (sub-terms ρ c.σ r.ys))));
         after =

@@ -2,7 +2,7 @@
 use Rattle.std.specs.Prelude.{◌≡◌, refl, List, [], ◌∷◌, ◌++◌, map, ◌⊎◌, ℕ, ◌+◌, ◌<◌}
 use Rattle.std.proofs.Common.{sym, ◌∙◌, ap, ap₂, inl, inr, arith}
 use Rattle.std.proofs.Math.Decide.{ℕ_discrete}
-use Rattle.calculus.specs.Terms.{Sort, Tree, var, node, nil, cons, Term, Terms, Eqn, ◌==◌, Conf, names}
+use Rattle.calculus.specs.Terms.{Sort, Tree, var, node, nil, cons, Term, Terms, Eqn, ◌≐◌, Conf, names}
 use Rattle.calculus.specs.Terms.{eqn_names, eqs_names, all_names, δ, sum, count, Perm, none, keep, swap}
 use Rattle.calculus.specs.Terms.{step, Sides, ◌∼◌, sub, sub_eqn, terms, if_eq, ◌⟦◌/◌⟧}
 use Rattle.calculus.proofs.Beneath.Sub.{sub-var, sub-eqs-var}
@@ -55,7 +55,7 @@ sum_ext f g (x ∷ l) h =
 
 -- The sum over an equation and those that follow it, and over a configuration, is that over its parts.
 pub sum-eqn : (f : ℕ → ℕ) (t u : Term) (l : List Eqn)
-    → sum f (eqs_names ((t == u) ∷ l)) ≡ sum f (names t) + (sum f (names u) + sum f (eqs_names l))
+    → sum f (eqs_names ((t ≐ u) ∷ l)) ≡ sum f (names t) + (sum f (names u) + sum f (eqs_names l))
 sum-eqn f t u l = omega (arith, sum-append f (names t ++ names u) (eqs_names l), sum-append f (names t) (names u))
 
 pub sum-conf : (f : ℕ → ℕ) (C : Conf) → sum f (all_names C) ≡ sum f (names C.face) + sum f (eqs_names C.eqs)
@@ -64,7 +64,7 @@ sum-conf f C = sum-append f (names C.face) (eqs_names C.eqs)
 pub sum-eqs-append : (f : ℕ → ℕ) (l m : List Eqn)
     → sum f (eqs_names (l ++ m)) ≡ sum f (eqs_names l) + sum f (eqs_names m)
 sum-eqs-append f [] m = omega arith
-sum-eqs-append f ((t == u) ∷ l) m = omega (arith, sum-eqs-append f l m, sum-eqn f t u (l ++ m), sum-eqn f t u l)
+sum-eqs-append f ((t ≐ u) ∷ l) m = omega (arith, sum-eqs-append f l m, sum-eqn f t u (l ++ m), sum-eqn f t u l)
 
 pub sum-eqs : (f : ℕ → ℕ) {l m : List Eqn} → l ∼ m → sum f (eqs_names l) ≡ sum f (eqs_names m)
 sum-eqs f none = refl
@@ -109,7 +109,7 @@ sum-sub f σ (cons t ts) =
 pub sum-sub-eqs : (f : ℕ → ℕ) (σ : ℕ → Term) (l : List Eqn)
     → sum f (eqs_names (map (sub_eqn σ) l)) ≡ sum (λ z. sum f (names (σ z))) (eqs_names l)
 sum-sub-eqs f σ [] = refl
-sum-sub-eqs f σ ((t == u) ∷ l) =
+sum-sub-eqs f σ ((t ≐ u) ∷ l) =
     omega (
       arith,
       sum-eqn f (sub σ t) (sub σ u) (map (sub_eqn σ) l),
@@ -171,11 +171,11 @@ sub_ext σ τ (cons t ts) h =
 pub sub-eqs_ext : (σ τ : ℕ → Term) (l : List Eqn)
     → ((x : ℕ) → 0 < count x (eqs_names l) → σ x ≡ τ x) → map (sub_eqn σ) l ≡ map (sub_eqn τ) l
 sub-eqs_ext σ τ [] h = refl
-sub-eqs_ext σ τ ((t == u) ∷ l) h =
+sub-eqs_ext σ τ ((t ≐ u) ∷ l) h =
     ap₂
     ◌∷◌
     (ap₂
-    ◌==◌
+    ◌≐◌
     (sub_ext σ τ t (λ x k. h x (omega (arith, sum-eqn (δ x) t u l))))
     (sub_ext σ τ u (λ x k. h x (omega (arith, sum-eqn (δ x) t u l)))))
     (sub-eqs_ext σ τ l (λ x k. h x (omega (arith, sum-eqn (δ x) t u l))))

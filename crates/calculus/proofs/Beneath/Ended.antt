@@ -1,7 +1,7 @@
 -- Where neither Communication nor Interaction applies: no name is a side of two equations, and no equation has a rule.
 use Rattle.std.specs.Prelude.{◌≡◌, refl, List, [], ◌∷◌, ◌++◌, ℕ, ◌+◌, ◌≤◌}
 use Rattle.std.proofs.Common.{◌∙◌, arith}
-use Rattle.calculus.specs.Terms.{var, node, Term, Terms, Eqn, ◌==◌, Conf, names, eqs_names, δ}
+use Rattle.calculus.specs.Terms.{var, node, Term, Terms, Eqn, ◌≐◌, Conf, names, eqs_names, δ}
 use Rattle.calculus.specs.Terms.{count, side, touch, touches, none, keep, swap, step, Sides, ◌∼◌}
 use Rattle.calculus.specs.Calculus.{Rule, Book, Step, communication, interaction}
 use Rattle.calculus.specs.Descent.{Normal}
@@ -14,12 +14,12 @@ All P (e ∷ l) = P e × All P l
 
 -- An equation between two agents; and one that no rule of the book takes.
 abbrev pub Cells : Eqn → Type 0
-Cells (var x == u) = ⊥
-Cells (node a ts == var y) = ⊥
-Cells (node a ts == node b us) = Unit {0}
+Cells (var x ≐ u) = ⊥
+Cells (node a ts ≐ var y) = ⊥
+Cells (node a ts ≐ node b us) = Unit {0}
 
 abbrev pub Idle : Book → Eqn → Type 0
-Idle B e = (i : ℕ) (r : Rule) → B i r → (ts us : Terms) → Sides e (node r.left ts == node r.right us) → ⊥
+Idle B e = (i : ℕ) (r : Rule) → B i r → (ts us : Terms) → Sides e (node r.left ts ≐ node r.right us) → ⊥
 
 pub touches-∼ : (x : ℕ) {l m : List Eqn} → l ∼ m → touches x l ≡ touches x m
 touches-∼ x none = refl
@@ -38,7 +38,7 @@ touches-append x (e ∷ l) m = omega (arith, touches-append x l m)
 -- A side that is a name is an occurrence.
 pub touch-count : (x : ℕ) (l : List Eqn) → touches x l ≤ count x (eqs_names l)
 touch-count x [] = omega arith
-touch-count x ((t == u) ∷ l) = omega (arith, side-count t, side-count u, touch-count x l, sum-eqn (δ x) t u l)
+touch-count x ((t ≐ u) ∷ l) = omega (arith, side-count t, side-count u, touch-count x l, sum-eqn (δ x) t u l)
   where
     side-count : (t : Term) → side x t ≤ count x (names t)
     side-count (var y) = omega arith
@@ -62,7 +62,7 @@ All-map f (e ∷ l) h = (f e h.0, All-map f l h.1)
 pub named_idle : (B : Book) (e : Eqn) → (Cells e → ⊥) → Idle B e
 named_idle B e h i r b ts us s = h (cells (Sides_equivalence.back s))
   where
-    cells : {f : Eqn} → Sides (node r.left ts == node r.right us) f → Cells f
+    cells : {f : Eqn} → Sides (node r.left ts ≐ node r.right us) f → Cells f
     cells Sides.same = tt
     cells Sides.turn = tt
 

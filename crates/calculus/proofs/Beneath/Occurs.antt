@@ -1,7 +1,7 @@
 -- What each rule of Definition 3 does to the occurrences of a name; so each keeps configurations valid.
 use Rattle.std.specs.Prelude.{◌≡◌, refl, ◌∷◌, ◌++◌, map, ◌⊎◌, ℕ, ◌+◌, ◌≤◌}
 use Rattle.std.proofs.Common.{◌∙◌, ap, inl, inr, arith}
-use Rattle.calculus.specs.Terms.{var, node, ◌==◌, Conf, names, eqs_names, δ, sum}
+use Rattle.calculus.specs.Terms.{var, node, ◌≐◌, Conf, names, eqs_names, δ, sum}
 use Rattle.calculus.specs.Terms.{count, occurs, sub_eqn, terms, ◌⟦◌/◌⟧}
 use Rattle.calculus.specs.Calculus.{Valid, Closed, Rule, Proper, Book, Sound, Communication, Substitution}
 use Rattle.calculus.specs.Calculus.{Collect, Interaction, Label, Step, communication, interaction, Arrow}
@@ -20,7 +20,7 @@ occurs_before {C} c y =
       arith,
       sum-conf (δ y) C,
       sum-eqs (δ y) c.before,
-      sum-eqn (δ y) (var c.x) c.t ((var c.x == c.u) ∷ c.Δ),
+      sum-eqn (δ y) (var c.x) c.t ((var c.x ≐ c.u) ∷ c.Δ),
       sum-eqn (δ y) (var c.x) c.u c.Δ,
     )
 
@@ -62,7 +62,7 @@ occurs-substitution {C} {D} v c y =
           arith,
           sum-conf (δ y) C,
           sum-eqs (δ y) c.before,
-          sum-eqn (δ y) (var c.x) c.t ((node c.α c.us == c.s) ∷ c.Δ),
+          sum-eqn (δ y) (var c.x) c.t ((node c.α c.us ≐ c.s) ∷ c.Δ),
           sum-eqn (δ y) (node c.α c.us) c.s c.Δ,
         )
 

@@ -5,7 +5,7 @@ use Rattle.std.proofs.Math.Path.{path_j}
 use Rattle.std.proofs.lemmas.List.{map-append}
 use Rattle.std.proofs.Math.Logic.{inl, inr}
 use Prim.Native.Nat.{ℕ, ◌+◌, ◌≤◌, ◌<◌}
-use Rattle.calculus.specs.Terms.{var, node, Term, Terms, Eqn, ◌==◌, Conf, names, eqs_names, all_names, δ, sum}
+use Rattle.calculus.specs.Terms.{var, node, Term, Terms, Eqn, ◌≐◌, Conf, names, eqs_names, all_names, δ, sum}
 use Rattle.calculus.specs.Terms.{count, occurs, keep, swap, step, Sides, ◌∼◌, sub, sub_eqn, terms, ren}
 use Rattle.calculus.specs.Calculus.{Valid, Rule, TwoSided, Proper, SamePair, Book, Sound}
 use Rattle.calculus.specs.Calculus.{Communication, Interaction, Com, Int, Step, interaction}
@@ -26,7 +26,7 @@ use Rattle.calculus.proofs.Beneath.Descent.{meet_at}
 
 -- The equation that an Interaction takes away, and those that it puts.
 abbrev pub redex : {r : Rule} {C D : Conf} → Interaction r C D → Eqn
-redex {r} c = node r.left (terms c.σ r.xs) == node r.right (terms c.σ r.ys)
+redex {r} c = node r.left (terms c.σ r.xs) ≐ node r.right (terms c.σ r.ys)
 
 abbrev pub put : {r : Rule} {C D : Conf} → Interaction r C D → List Eqn
 put {r} c = map (sub_eqn c.σ) r.body
@@ -51,7 +51,7 @@ interact b c {Γ = Γ} f p q e =
     })
 
 -- An equation between two agents is none with a name.
-not_name : {a b x : ℕ} {ts us : Terms} {t : Term} → Sides (node a ts == node b us) (var x == t) → ⊥
+not_name : {a b x : ℕ} {ts us : Terms} {t : Term} → Sides (node a ts ≐ node b us) (var x ≐ t) → ⊥
 not_name s = elim (sides_inv s) [ inl h ↦ agent h.0 | inr h ↦ agent h.1 ]
   where
     IsName : Term → Type 0
@@ -66,7 +66,7 @@ module _ {B : Book} {i : ℕ} {r : Rule} {C D E : Conf} (b : B i r) (c : Interac
   apart_from {Ω} p q =
       meet_at
       ≈-equivalence
-      (record { face = C.face; eqs = (d.t == d.u) ∷ (put c ++ Ω) })
+      (record { face = C.face; eqs = (d.t ≐ d.u) ∷ (put c ++ Ω) })
       (communicate
       d.x
       d.t
@@ -79,7 +79,7 @@ module _ {B : Book} {i : ℕ} {r : Rule} {C D E : Conf} (b : B i r) (c : Interac
       c
       (λ z k. omega (arith, occurs-communication d (c.name z), c.choice.fresh z k))
       (step d.after (step (on _ q) swap))
-      (back (perm_shift E' (put c) (d.t == d.u) Ω))
+      (back (perm_shift E' (put c) (d.t ≐ d.u) Ω))
       (sym d.face))
     where
       E' : Equivalence Sides
@@ -194,7 +194,7 @@ turned {r} {C} {E} e w d =
           (ap
           (λ q. q ∷ d.Δ)
           (ap₂
-          ◌==◌
+          ◌≐◌
           (ap₂ node (sym e) (sym (across d w r.xs w.left)))
           (ap₂ node e (sym (across d w r.ys w.right)))))));
       after =

@@ -2,7 +2,7 @@
 use Rattle.std.specs.Prelude.{◌≡◌, refl, List, [], ◌∷◌, ◌++◌, map, ℕ, ◌+◌, ◌≤◌, ◌<◌, get_or}
 use Rattle.std.proofs.Common.{sym, ◌∙◌, ap, ap₂, inl, inr, arith}
 use Rattle.std.proofs.Math.Decide.{ℕ_discrete}
-use Rattle.calculus.specs.Terms.{var, Eqn, ◌==◌, δ, count, Reordered, none, keep, step, Sides, if_eq}
+use Rattle.calculus.specs.Terms.{var, Eqn, ◌≐◌, δ, count, Reordered, none, keep, step, Sides, if_eq}
 use Rattle.calculus.specs.Calculus.{Rule, TwoSided, Proper, SamePair, Sound}
 use Rattle.calculus.specs.Rules.{listed, distinct, Level, exchange_lists, Plain, one_sided, both_sided}
 use Rattle.calculus.proofs.Beneath.Perm.{Ins, here, there, perm_ins, Path_equivalence}
@@ -127,12 +127,12 @@ one_sided_not_proper p = (All-∼ closed (back w.body) others).0 (rw (at 0 w.lef
     at k e = ap (λ l. get_or l k 0) e
 
     Unlike : Eqn → Type 0
-    Unlike e = Sides e (var 3 == var 1) → ⊥
+    Unlike e = Sides e (var 3 ≐ var 1) → ⊥
 
     closed : (d e : Eqn) → Sides d e → Unlike d → Unlike e
     closed d e s h k = h (Sides_equivalence.join s k)
 
-    unlike : (x y : ℕ) → (x ≡ 3 → y ≡ 1 → ⊥) → (x ≡ 1 → y ≡ 3 → ⊥) → Unlike (var x == var y)
+    unlike : (x y : ℕ) → (x ≡ 3 → y ≡ 1 → ⊥) → (x ≡ 1 → y ≡ 3 → ⊥) → Unlike (var x ≐ var y)
     unlike x y m n s = elim (sides_inv s) [
       | inl h ↦ m (var_inj h.0) (var_inj h.1)
       | inr h ↦ n (var_inj h.0) (var_inj h.1)

@@ -2,7 +2,7 @@
 use Rattle.std.specs.Prelude.{◌≡◌, refl, List, [], ◌∷◌, map, ◌⊎◌, ℕ}
 use Rattle.std.proofs.Common.{ap, ap₂, inl, inr}
 use Rattle.calculus.specs.Terms.{Sort, Tree, var, node, nil, cons, Term, Terms, Eqn}
-use Rattle.calculus.specs.Terms.{◌==◌, Sides, ◌∼◌, sub, sub_eqn, terms}
+use Rattle.calculus.specs.Terms.{◌≐◌, Sides, ◌∼◌, sub, sub_eqn, terms}
 use Rattle.calculus.proofs.Beneath.Diamond.{Equivalence}
 use Rattle.calculus.proofs.Beneath.Perm.{perm_refl, perm_sym, perm_of_eq, perm_cons, perm_map, perm_heads, Moved}
 
@@ -22,7 +22,7 @@ Sides_equivalence = record { same = λ e. Sides.same; back = back; join = join }
 abbrev pub Matched : Term → Term → Term → Term → Type 0
 Matched t u s r = ((t ≡ s) × (u ≡ r)) ⊎ ((t ≡ r) × (u ≡ s))
 
-pub sides_inv : {t u s r : Term} → Sides (t == u) (s == r) → Matched t u s r
+pub sides_inv : {t u s r : Term} → Sides (t ≐ u) (s ≐ r) → Matched t u s r
 sides_inv Sides.same = inl (refl, refl)
 sides_inv Sides.turn = inr (refl, refl)
 
@@ -80,12 +80,12 @@ sub-sub σ τ (cons t ts) = ap₂ cons (sub-sub σ τ t) (sub-sub σ τ ts)
 
 pub sub-eqs-var : (l : List Eqn) → map (sub_eqn var) l ≡ l
 sub-eqs-var [] = refl
-sub-eqs-var ((t == u) ∷ l) = ap₂ ◌∷◌ (ap₂ ◌==◌ (sub-var t) (sub-var u)) (sub-eqs-var l)
+sub-eqs-var ((t ≐ u) ∷ l) = ap₂ ◌∷◌ (ap₂ ◌≐◌ (sub-var t) (sub-var u)) (sub-eqs-var l)
 
 pub sub-eqs-sub : (σ τ : ℕ → Term) (l : List Eqn)
     → map (sub_eqn σ) (map (sub_eqn τ) l) ≡ map (sub_eqn (λ x. sub σ (τ x))) l
 sub-eqs-sub σ τ [] = refl
-sub-eqs-sub σ τ ((t == u) ∷ l) = ap₂ ◌∷◌ (ap₂ ◌==◌ (sub-sub σ τ t) (sub-sub σ τ u)) (sub-eqs-sub σ τ l)
+sub-eqs-sub σ τ ((t ≐ u) ∷ l) = ap₂ ◌∷◌ (ap₂ ◌≐◌ (sub-sub σ τ t) (sub-sub σ τ u)) (sub-eqs-sub σ τ l)
 
 pub sub-terms : (σ τ : ℕ → Term) (xs : List ℕ) → sub σ (terms τ xs) ≡ terms (λ x. sub σ (τ x)) xs
 sub-terms σ τ [] = refl

@@ -1,7 +1,7 @@
 -- Two Communications from one configuration meet.
 use Rattle.std.specs.Prelude.{◌≡◌, List, ◌∷◌, ◌⊎◌, ℕ, ◌+◌, ◌<◌}
 use Rattle.std.proofs.Common.{sym, ◌∙◌, ap, ap₂, inl, inr, arith}
-use Rattle.calculus.specs.Terms.{var, Term, Eqn, ◌==◌, Conf, names, eqs_names, δ, count}
+use Rattle.calculus.specs.Terms.{var, Term, Eqn, ◌≐◌, Conf, names, eqs_names, δ, count}
 use Rattle.calculus.specs.Terms.{occurs, keep, swap, step, Sides, ◌∼◌, sub, ren}
 use Rattle.calculus.specs.Calculus.{Valid, Book, Communication, Com, Step, communication}
 use Rattle.calculus.specs.Nets.{◌≈◌}
@@ -18,10 +18,10 @@ use Rattle.calculus.proofs.Beneath.Descent.{meet_at}
 
 -- The two equations that a Communication takes.
 abbrev pub eqn₁ : {C D : Conf} → Communication C D → Eqn
-eqn₁ c = var c.x == c.t
+eqn₁ c = var c.x ≐ c.t
 
 abbrev pub eqn₂ : {C D : Conf} → Communication C D → Eqn
-eqn₂ c = var c.x == c.u
+eqn₂ c = var c.x ≐ c.u
 
 -- The two equations in the other order.
 pub flip : {C D : Conf} → Communication C D → Communication C D
@@ -38,7 +38,7 @@ flip c =
 
 -- The Communication of x = t and x = u, wherever they stand.
 pub communicate : {B : Book} {C D : Conf} (x : ℕ) (t u : Term) {Δ : List Eqn}
-    → C.eqs ∼ (var x == t) ∷ (var x == u) ∷ Δ → D.eqs ∼ (t == u) ∷ Δ → D.face ≡ C.face → Step B C Com D
+    → C.eqs ∼ (var x ≐ t) ∷ (var x ≐ u) ∷ Δ → D.eqs ∼ (t ≐ u) ∷ Δ → D.face ≡ C.face → Step B C Com D
 communicate x t u {Δ} p q e = communication (record { x = x; t = t; u = u; Δ = Δ; before = p; after = q; face = e })
 
 module _ {C D E : Conf} (v : Valid C) (c : Communication C D) (d : Communication C E) where
@@ -51,7 +51,7 @@ module _ {C D E : Conf} (v : Valid C) (c : Communication C D) (d : Communication
       plain e f =
           ≈-alike
           (c.face ∙ sym d.face)
-          (step c.after (step (≈of (ap₂ (λ t u. (t == u) ∷ c.Δ) e f)) (step (on _ p) (back d.after))))
+          (step c.after (step (≈of (ap₂ (λ t u. (t ≐ u) ∷ c.Δ) e f)) (step (on _ p) (back d.after))))
 
       X : ℕ
       X = c.x
@@ -69,12 +69,12 @@ module _ {C D E : Conf} (v : Valid C) (c : Communication C D) (d : Communication
             face = ap (sub σ) c.face ∙ sub-fixed σ C.face (λ x k. fixes x (omega arith)) ∙ sym d.face;
             eqs =
                 step
-                (sub-∼ σ (step c.after (≈of (ap₂ (λ t u. (t == u) ∷ c.Δ) tY uY))))
+                (sub-∼ σ (step c.after (≈of (ap₂ (λ t u. (t ≐ u) ∷ c.Δ) tY uY))))
                 (step
                 (≈of
                 (ap₂
                 ◌∷◌
-                (ap (λ x. var x == var x) (exchange_right X Y) ∙ ap₂ ◌==◌ (sym tX) (sym uX))
+                (ap (λ x. var x ≐ var x) (exchange_right X Y) ∙ ap₂ ◌≐◌ (sym tX) (sym uX))
                 (sub-eqs-fixed σ c.Δ (λ x k. fixes x (omega arith)))))
                 (step (on _ p) (back d.after)));
             free = λ x k. exchange_other
@@ -126,19 +126,19 @@ module _ {B : Book} {C D E : Conf} (v : Valid C) (c : Communication C D) (d : Co
         ))
     | inr e ↦ meet_at
         ≈-equivalence
-        (record { face = C.face; eqs = (c.u == d.u) ∷ Ω })
+        (record { face = C.face; eqs = (c.u ≐ d.u) ∷ Ω })
         (communicate
         d.x
         c.u
         d.u
-        (step c.after (step (≈of (ap (λ w. (w == c.u) ∷ c.Δ) e.1)) (on _ p)))
+        (step c.after (step (≈of (ap (λ w. (w ≐ c.u) ∷ c.Δ) e.1)) (on _ p)))
         (whole _)
         (sym c.face))
         (communicate
         c.x
         c.u
         d.u
-        (step d.after (step (≈of (ap (λ w. (w == d.u) ∷ d.Δ) (sym e.0))) (step (on _ q) swap)))
+        (step d.after (step (≈of (ap (λ w. (w ≐ d.u) ∷ d.Δ) (sym e.0))) (step (on _ q) swap)))
         (whole _)
         (sym d.face))
   ]
@@ -149,7 +149,7 @@ module _ {B : Book} {C D E : Conf} (v : Valid C) (c : Communication C D) (d : Co
   none_shared {Ω} p q =
       meet_at
       ≈-equivalence
-      (record { face = C.face; eqs = (d.t == d.u) ∷ (c.t == c.u) ∷ Ω })
+      (record { face = C.face; eqs = (d.t ≐ d.u) ∷ (c.t ≐ c.u) ∷ Ω })
       (communicate d.x d.t d.u (step c.after (third p)) (whole _) (sym c.face))
       (communicate c.x c.t c.u (step d.after (third q)) swap (sym d.face))
     where

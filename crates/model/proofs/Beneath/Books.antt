@@ -3,7 +3,7 @@ use Rattle.std.specs.Prelude.{◌≡◌, refl, List, ◌∷◌, ℕ}
 use Rattle.std.proofs.Common.{sym, ◌∙◌, ap, ap₂, subst}
 use Rattle.calculus.specs.Calculus.{Rule, Proper, SamePair}
 use Rattle.calculus.proofs.Beneath.Count.{first_term, rest_terms}
-use Rattle.calculus.specs.Terms.{Eqn, ◌==◌}
+use Rattle.calculus.specs.Terms.{Eqn, ◌≐◌}
 use Rattle.parts.specs.Sides.{Pair}
 use Rattle.model.specs.Table.{Cell, Entry, Table}
 use Rattle.model.specs.Reading.{ReadsAll, no_pairs, pairs}
@@ -17,7 +17,7 @@ pub one_reading : {mem : ℕ → Cell} {l : List Pair} {m m' : List Eqn} {cs cs'
 one_reading no_pairs no_pairs = refl
 one_reading (pairs {t = t} r w) (pairs r' w') =
     let o = one_outcome r r' in
-    ap₂ ◌∷◌ (ap₂ ◌==◌ (ap (λ ts. first_term ts t) o.the_terms) (ap (λ ts. first_term (rest_terms ts) t) o.the_terms)) (one_reading w w')
+    ap₂ ◌∷◌ (ap₂ ◌≐◌ (ap (λ ts. first_term ts t) o.the_terms) (ap (λ ts. first_term (rest_terms ts) t) o.the_terms)) (one_reading w w')
 
 means_one : {T : Table} {e : Entry} {r r' : Rule} → Means T e r → Means T e r' → r ≡ r'
 means_one {r = r} {r' = r'} a b =

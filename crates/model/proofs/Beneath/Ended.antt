@@ -9,7 +9,7 @@ use Rattle.calculus.proofs.Beneath.Count.{δ_other, first_term, rest_terms}
 use Rattle.calculus.proofs.Beneath.Ended.{All, Cells, Idle, touches-∼, touches-append, touch-count}
 use Rattle.calculus.proofs.Beneath.Ended.{All-∼, All-append, All-map, named_idle, ended_normal}
 use Rattle.calculus.proofs.Beneath.Sub.{Sides_equivalence, back}
-use Rattle.calculus.specs.Terms.{◌∼◌, none, keep, swap, step, var, node, Term, Terms, Eqn, ◌==◌, Sides, touch, touches}
+use Rattle.calculus.specs.Terms.{◌∼◌, none, keep, swap, step, var, node, Term, Terms, Eqn, ◌≐◌, Sides, touch, touches}
 use Rattle.parts.specs.Limits.{names_max}
 use Rattle.parts.specs.Sides.{Side, name, cell, Pair, ◌:=◌, side}
 use Rattle.parts.specs.Codes.{code-side}
@@ -32,7 +32,7 @@ touched x ((a := b) ∷ l) = min 1 (is_name x a + is_name x b) + touched x l
 
 touch-pair : {mem : ℕ → Cell} {a b : Side} {ts : Terms} {cs : List ℕ} (x : ℕ) (d : Term)
     → Reads mem (a ∷ b ∷ []) ts cs
-    → touch x (first_term ts d == first_term (rest_terms ts) d) ≡ min 1 (is_name x a + is_name x b)
+    → touch x (first_term ts d ≐ first_term (rest_terms ts) d) ≡ min 1 (is_name x a + is_name x b)
 touch-pair x d (by_name (by_name Reads.none)) = refl
 touch-pair x d (by_name (by_cell e q Reads.none)) = refl
 touch-pair x d (by_cell e q (by_name Reads.none)) = refl
@@ -151,7 +151,7 @@ led i (v ∷ l) = led_append (bond_at i v) (bonds (suc i) l) (go v) (led (suc i)
 
 led_pair : {mem : ℕ → Cell} {x : ℕ} {b : Side} {ts : Terms} {cs : List ℕ} (d : Term)
     → Reads mem (name x ∷ b ∷ []) ts cs
-    → Cells (first_term ts d == first_term (rest_terms ts) d) → ⊥
+    → Cells (first_term ts d ≐ first_term (rest_terms ts) d) → ⊥
 led_pair d (by_name r) h = h
 
 led_all : {mem : ℕ → Cell} {l : List Pair} {m : List Eqn} {cs : List ℕ} → ReadsAll mem l m cs → Led l
@@ -162,12 +162,12 @@ led_all {mem} (pairs {a = cell c} {t = t} r w) h = absurd h
 
 -- A stuck pair, read.
 abbrev first_symbol : Eqn → ℕ
-first_symbol (var x == u) = 0
-first_symbol (node s ts == u) = s
+first_symbol (var x ≐ u) = 0
+first_symbol (node s ts ≐ u) = s
 
 abbrev second_symbol : Eqn → ℕ
-second_symbol (t == var x) = 0
-second_symbol (t == node s ts) = s
+second_symbol (t ≐ var x) = 0
+second_symbol (t ≐ node s ts) = s
 
 pub record Pairing (mem : ℕ → Cell) (a b : ℕ) (e : Eqn) : Type 0 where
   pub cells : Cells e
@@ -175,7 +175,7 @@ pub record Pairing (mem : ℕ → Cell) (a b : ℕ) (e : Eqn) : Type 0 where
   pub second : second_symbol e ≡ (mem b).symbol
 
 stuck_pair : {mem : ℕ → Cell} {a b : ℕ} {ts : Terms} {cs : List ℕ} (d : Term) → Reads mem (cell a ∷ cell b ∷ []) ts cs
-    → Pairing mem a b (first_term ts d == first_term (rest_terms ts) d)
+    → Pairing mem a b (first_term ts d ≐ first_term (rest_terms ts) d)
 stuck_pair d (by_cell e q (by_cell e' q' Reads.none)) =
     record { cells = tt; first = ap (λ k. k.symbol) (sym e); second = ap (λ k. k.symbol) (sym e') }
 
@@ -203,14 +203,14 @@ module _ {T : Table} (h : SoundTable T) {mem : ℕ → Cell} where
           on Sides.same c x y = inl (x, y)
           on (Sides.turn {t = t} {u = u}) c x y = inr (turned t u c x y)
             where
-              turned : (t u : Term) → Cells (t == u) → first_symbol (t == u) ≡ (mem a).symbol
-                  → second_symbol (t == u) ≡ (mem b).symbol
-                  → (first_symbol (u == t) ≡ (mem b).symbol) × (second_symbol (u == t) ≡ (mem a).symbol)
+              turned : (t u : Term) → Cells (t ≐ u) → first_symbol (t ≐ u) ≡ (mem a).symbol
+                  → second_symbol (t ≐ u) ≡ (mem b).symbol
+                  → (first_symbol (u ≐ t) ≡ (mem b).symbol) × (second_symbol (u ≐ t) ≡ (mem a).symbol)
               turned (var z) u c x y = absurd c
               turned (node s ts) (var z) c x y = absurd c
               turned (node s ts) (node s' us) c x y = (y, x)
 
-      go : Sides e (node r.left ts == node r.right us) → ⊥
+      go : Sides e (node r.left ts ≐ node r.right us) → ⊥
       go k = by (sides k)
         where
           by : ((r.left ≡ (mem a).symbol) × (r.right ≡ (mem b).symbol)) ⊎ ((r.left ≡ (mem b).symbol) × (r.right ≡ (mem a).symbol))
@@ -224,18 +224,18 @@ module _ {T : Table} (h : SoundTable T) {mem : ℕ → Cell} where
   stuck_all (pairs {a = name x} {t = t} r w) k = absurd k.0
   stuck_all (pairs {a = cell x} {b = name y} {t = t} r w) k = absurd k.0
   stuck_all (pairs {a = cell x} {b = cell y} {t = t} {u = u} r w) k =
-      let p : Pairing mem x y (t == u) = stuck_pair t r in
+      let p : Pairing mem x y (t ≐ u) = stuck_pair t r in
       let rest = stuck_all w k.1 in
-      ((p.cells, rest.0), (idle_pair x y (t == u) p k.0, rest.1))
+      ((p.cells, rest.0), (idle_pair x y (t ≐ u) p k.0, rest.1))
 
 idle_∼ : (B : Book) {l m : List Eqn} → l ∼ m → All (Idle B) l → All (Idle B) m
 idle_∼ B p h = All-∼ (λ d e s k i r b ts us q. k i r b ts us (Sides_equivalence.join s q)) p h
 
 cells_untouched : (x : ℕ) (l : List Eqn) → All Cells l → touches x l ≡ 0
 cells_untouched x [] h = refl
-cells_untouched x ((var y == u) ∷ l) h = absurd h.0
-cells_untouched x ((node a ts == var y) ∷ l) h = absurd h.0
-cells_untouched x ((node a ts == node b us) ∷ l) h = omega (arith, cells_untouched x l h.1)
+cells_untouched x ((var y ≐ u) ∷ l) h = absurd h.0
+cells_untouched x ((node a ts ≐ var y) ∷ l) h = absurd h.0
+cells_untouched x ((node a ts ≐ node b us) ∷ l) h = omega (arith, cells_untouched x l h.1)
 
 -- Loops.
 circles-above : (range n x : ℕ) → range + n ≤ x → touches x (circles range n) ≡ 0
@@ -251,7 +251,7 @@ circles-once range ℕ.zero x = omega arith
 circles-once range (ℕ.suc n) x = go (dec_lt x (range + n)) (circles-once range n x)
   where
     go : Dec (x < range + n) → touches x (circles range n) ≤ 1
-        → touch x (var (range + n) == var (range + n)) + touches x (circles range n) ≤ 1
+        → touch x (var (range + n) ≐ var (range + n)) + touches x (circles range n) ≤ 1
     go (yes h) k = omega (arith, δ_other {x = x} {y = range + n} (λ e. omega arith))
     go (no h) k = omega (arith, circles-above range n x (omega arith))
 

@@ -5,7 +5,7 @@ use Rattle.calculus.specs.Calculus.{Rule, Proper}
 use Rattle.calculus.proofs.Beneath.Count.{δ_same, δ-cases, sum-append, sum_perm, first_term, rest_terms}
 use Rattle.calculus.proofs.Beneath.Perm.{Ins, perm_ins}
 use Rattle.calculus.proofs.Beneath.Sub.{Sides_equivalence, whole, back}
-use Rattle.calculus.specs.Terms.{δ, sum, count, keep, step, var, node, nil, cons, Term, Terms, Eqn, ◌==◌, Sides, ◌∼◌}
+use Rattle.calculus.specs.Terms.{δ, sum, count, keep, step, var, node, nil, cons, Term, Terms, Eqn, ◌≐◌, Sides, ◌∼◌}
 use Rattle.calculus.specs.Terms.{names, eqs_names, sub_eqn, terms}
 use Rattle.parts.specs.Sides.{Side, name, cell, Pair, ◌:=◌}
 use Rattle.model.specs.Table.{Cell}
@@ -21,7 +21,7 @@ abbrev pub in_use : {mem : ℕ → Cell} {face : List Side} {P : List Pair} → 
 in_use h c = count c h.c₀ + count c h.c₁
 
 abbrev pub redex_by : Rule → (ℕ → Term) → Eqn
-redex_by r σ = node r.left (terms σ r.xs) == node r.right (terms σ r.ys)
+redex_by r σ = node r.left (terms σ r.xs) ≐ node r.right (terms σ r.ys)
 
 -- A rule's right side in cells of its own.
 pub record Template (r : Rule) : Type 0 where
@@ -81,12 +81,12 @@ pub record TwoCells (mem : ℕ → Cell) (a b : ℕ) (e : Eqn) (cs : List ℕ) :
   pub es : List ℕ
   pub first : Reads mem (mem a).args us ds
   pub second : Reads mem (mem b).args vs es
-  pub eqn : Sides e (node (mem a).symbol us == node (mem b).symbol vs)
+  pub eqn : Sides e (node (mem a).symbol us ≐ node (mem b).symbol vs)
   pub cells : (c : ℕ) → count c cs ≡ δ c a + count c ds + (δ c b + count c es)
 
 -- (the terms are a variable here: antt solves no equation between constructors of `Tree`, an indexed family)
 both-cells : {mem : ℕ → Cell} {a b : ℕ} {ts : Terms} {cs : List ℕ} (d : Term) → Reads mem (cell a ∷ cell b ∷ []) ts cs
-    → TwoCells mem a b (first_term ts d == first_term (rest_terms ts) d) cs
+    → TwoCells mem a b (first_term ts d ≐ first_term (rest_terms ts) d) cs
 both-cells {mem} {a} {b} d (by_cell {us = us} {ds = ds} p q (by_cell {us = vs} {ds = es} p' q' Reads.none)) =
     record {
       us = us;
@@ -95,7 +95,7 @@ both-cells {mem} {a} {b} d (by_cell {us = us} {ds = ds} p q (by_cell {us = vs} {
       es = es;
       first = subst (λ k. Reads mem k.args us ds) (sym p) q;
       second = subst (λ k. Reads mem k.args vs es) (sym p') q';
-      eqn = sides_of-eq (ap₂ (λ k h. node k.symbol us == node h.symbol vs) (sym p) (sym p'));
+      eqn = sides_of-eq (ap₂ (λ k h. node k.symbol us ≐ node h.symbol vs) (sym p) (sym p'));
       cells = λ c. omega (arith, sum-append (δ c) ds (b ∷ (es ++ [])), sum-append (δ c) es []);
     }
 
@@ -296,7 +296,7 @@ module _ {mem : ℕ → Cell} {face : List Side} {P : List Pair} (h : Whole mem 
       redex =
           subst
           (λ d. Sides q.eqn d)
-          (ap₂ ◌==◌ (ap₂ node (ap (λ c. c.symbol) f.left) (sym xs-are)) (ap₂ node (ap (λ c. c.symbol) f.right) (sym ys-are)))
+          (ap₂ ◌≐◌ (ap₂ node (ap (λ c. c.symbol) f.left) (sym xs-are)) (ap₂ node (ap (λ c. c.symbol) f.right) (sym ys-are)))
           k.eqn
 
       balance : (c : ℕ)

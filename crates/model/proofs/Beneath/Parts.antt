@@ -5,7 +5,7 @@ use Rattle.calculus.proofs.Beneath.Diamond.{Equivalence}
 use Rattle.calculus.proofs.Beneath.Count.{sum-append, first_term, rest_terms}
 use Rattle.calculus.proofs.Beneath.Perm.{perm_sym}
 use Rattle.calculus.proofs.Beneath.Sub.{whole, on}
-use Rattle.calculus.specs.Terms.{δ, count, Perm, none, keep, swap, step, nil, cons, Term, Terms, Eqn, ◌==◌, Sides}
+use Rattle.calculus.specs.Terms.{δ, count, Perm, none, keep, swap, step, nil, cons, Term, Terms, Eqn, ◌≐◌, Sides}
 use Rattle.calculus.specs.Terms.{◌∼◌}
 use Rattle.parts.specs.Sides.{Side, Pair, ◌:=◌}
 use Rattle.model.specs.Table.{Cell}
@@ -68,7 +68,7 @@ reread none no_pairs = record { eqs = []; its = []; reads = no_pairs; order = no
 reread (keep same p) (pairs {t = t} {u = u} {cs = cs} {ds = ds} r w) =
     let k = reread p w in
     record {
-      eqs = (t == u) ∷ k.eqs;
+      eqs = (t ≐ u) ∷ k.eqs;
       its = cs ++ k.its;
       reads = pairs r k.reads;
       order = on _ k.order;
@@ -78,7 +78,7 @@ reread (keep turn p) (pairs {t = t} {u = u} {cs = cs} {ds = ds} r w) =
     let k = reread p w in
     let s = swap-sides t r in
     record {
-      eqs = (u == t) ∷ k.eqs;
+      eqs = (u ≐ t) ∷ k.eqs;
       its = s.its ++ k.its;
       reads = pairs s.reads k.reads;
       order = keep Sides.turn k.order;
@@ -86,7 +86,7 @@ reread (keep turn p) (pairs {t = t} {u = u} {cs = cs} {ds = ds} r w) =
     }
 reread swap (pairs {t = t} {u = u} {cs = cs} r (pairs {t = t'} {u = u'} {cs = cs'} {ds = ds} {m = m} r' w)) =
     record {
-      eqs = (t' == u') ∷ (t == u) ∷ m;
+      eqs = (t' ≐ u') ∷ (t ≐ u) ∷ m;
       its = cs' ++ (cs ++ ds);
       reads = pairs r' (pairs r w);
       order = swap;
@@ -116,7 +116,7 @@ split [] {m = m} {cs = cs} r =
 split ((a := b) ∷ w) (pairs {t = t} {u = u} {cs = cs} {ds = ds} r v) =
     let k = split w v in
     record {
-      eqs = (t == u) ∷ k.eqs;
+      eqs = (t ≐ u) ∷ k.eqs;
       others = k.others;
       its = cs ++ k.its;
       theirs = k.theirs;

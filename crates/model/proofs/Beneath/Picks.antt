@@ -4,7 +4,7 @@ use Rattle.std.proofs.Common.{sym, ap, subst, append_assoc, arith}
 use Rattle.std.proofs.Math.Decide.{ℕ_discrete}
 use Rattle.calculus.proofs.Beneath.Count.{δ_same, δ_other, sum-append, sum_ext}
 use Rattle.calculus.proofs.Beneath.Perm.{Ins, here, there}
-use Rattle.calculus.specs.Terms.{δ, sum, count, var, node, nil, cons, Term, Terms, Eqn, ◌==◌}
+use Rattle.calculus.specs.Terms.{δ, sum, count, var, node, nil, cons, Term, Terms, Eqn, ◌≐◌}
 use Rattle.parts.specs.Sides.{Side, Pair, ◌:=◌}
 use Rattle.model.specs.Table.{Cell}
 use Rattle.model.specs.Reading.{Reads, by_name, by_cell, no_pairs, ReadsAll, pairs}
@@ -22,7 +22,7 @@ pub append_all : {mem : ℕ → Cell} {l l' : List Pair} {m m' : List Eqn} {cs c
 append_all no_pairs w = w
 append_all {mem} {l' = l'} {m' = m'} {cs' = cs'} (pairs {a = a} {b = b} {t = t} {u = u} {cs = cs} {ds = ds} {l = l} {m = m} r v) w =
     subst
-    (λ k. ReadsAll mem ((a := b) ∷ (l ++ l')) ((t == u) ∷ (m ++ m')) k)
+    (λ k. ReadsAll mem ((a := b) ∷ (l ++ l')) ((t ≐ u) ∷ (m ++ m')) k)
     (sym (append_assoc cs ds cs'))
     (pairs r (append_all v w))
 
@@ -41,7 +41,7 @@ pub pick : {mem : ℕ → Cell} {p : Pair} {rest l : List Pair} {m : List Eqn} {
     → ReadsAll mem l m cs → Picked mem p rest m cs
 pick here (pairs {t = t} {u = u} {cs = cs} {ds = ds} {m = m} r w) =
     record {
-      eqn = t == u;
+      eqn = t ≐ u;
       others = m;
       its = cs ++ [];
       theirs = ds;
@@ -54,7 +54,7 @@ pick (there i) (pairs {t = t} {u = u} {cs = cs} {ds = ds} r w) =
     let q = pick i w in
     record {
       eqn = q.eqn;
-      others = (t == u) ∷ q.others;
+      others = (t ≐ u) ∷ q.others;
       its = q.its;
       theirs = cs ++ q.theirs;
       out = there q.out;

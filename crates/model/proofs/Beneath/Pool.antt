@@ -8,7 +8,7 @@ use Rattle.calculus.specs.Calculus.{Communication}
 use Rattle.calculus.proofs.Beneath.Count.{sum-append, sum-eqs, sum-eqs-append, first_term, rest_terms}
 use Rattle.calculus.proofs.Beneath.Perm.{perm_append_right}
 use Rattle.calculus.proofs.Beneath.Sub.{Sides_equivalence, whole, ≈of, back}
-use Rattle.calculus.specs.Terms.{δ, count, step, var, node, nil, cons, Term, Terms, Eqn, ◌==◌, Conf, ◌∼◌, names}
+use Rattle.calculus.specs.Terms.{δ, count, step, var, node, nil, cons, Term, Terms, Eqn, ◌≐◌, Conf, ◌∼◌, names}
 use Rattle.calculus.specs.Terms.{eqs_names}
 use Rattle.parts.specs.Sides.{Side, name, Pair, ◌:=◌}
 use Rattle.model.specs.Table.{Cell}
@@ -113,19 +113,19 @@ pub record Named (mem : ℕ → Cell) (x : ℕ) (t : Side) (l : List Pair) (m : 
   pub theirs : List ℕ
   pub reads : Reads mem (t ∷ []) (cons U nil) its
   pub rest : ReadsAll mem l m' theirs
-  pub eqs : m ≡ (var x == U) ∷ m'
+  pub eqs : m ≡ (var x ≐ U) ∷ m'
   pub cells : (c : ℕ) → count c cs ≡ count c its + count c theirs
 
 record NamedSides (mem : ℕ → Cell) (x : ℕ) (t : Side) (e : Eqn) (cs : List ℕ) : Type 0 where
   pub U : Term
   pub its : List ℕ
   pub reads : Reads mem (t ∷ []) (cons U nil) its
-  pub eqn : e ≡ (var x == U)
+  pub eqn : e ≡ (var x ≐ U)
   pub cells : (c : ℕ) → count c cs ≡ count c its
 
 named-sides : {mem : ℕ → Cell} {x : ℕ} {t : Side} {ts : Terms} {cs : List ℕ} (d : Term)
     → Reads mem (name x ∷ t ∷ []) ts cs
-    → NamedSides mem x t (first_term ts d == first_term (rest_terms ts) d) cs
+    → NamedSides mem x t (first_term ts d ≐ first_term (rest_terms ts) d) cs
 named-sides d (by_name (by_name {x = y} Reads.none)) = record { U = var y; its = []; reads = by_name Reads.none; eqn = refl; cells = λ c. refl }
 named-sides d (by_name (by_cell {c = c} {k = k} {us = us} {ds = ds} e q Reads.none)) =
     record { U = node k.symbol us; its = c ∷ (ds ++ []); reads = by_cell e q Reads.none; eqn = refl; cells = λ c. refl }
@@ -155,7 +155,7 @@ pub record Both (mem : ℕ → Cell) (x : ℕ) (a t : Side) (m : List Eqn) (cs :
   pub ds : List ℕ
   pub es : List ℕ
   pub reads : Reads mem (a ∷ t ∷ []) (cons A (cons U nil)) (ds ++ es)
-  pub eqs : m ≡ (var x == A) ∷ (var x == U) ∷ []
+  pub eqs : m ≡ (var x ≐ A) ∷ (var x ≐ U) ∷ []
   pub cells : (c : ℕ) → count c cs ≡ count c ds + count c es
 
 pub two_named : {mem : ℕ → Cell} {x : ℕ} {a t : Side} {m : List Eqn} {cs : List ℕ}
@@ -173,7 +173,7 @@ two_named {mem} {x} {a} {t} {m} {cs} r = go (named r)
               ds = k.its;
               es = j.its;
               reads = reads-append k.reads j.reads;
-              eqs = k.eqs ∙ ap (λ l. (var x == k.U) ∷ l) (j.eqs ∙ ap (λ l. (var x == j.U) ∷ l) (nothing j.rest).0);
+              eqs = k.eqs ∙ ap (λ l. (var x ≐ k.U) ∷ l) (j.eqs ∙ ap (λ l. (var x ≐ j.U) ∷ l) (nothing j.rest).0);
               cells = λ c. omega (arith, k.cells c, j.cells c, ap (count c) (nothing j.rest).1);
             }
 
@@ -212,7 +212,7 @@ module _ {mem : ℕ → Cell} {live : ℕ → ℕ} {face : List Side} {P : List 
                 sum-append (δ y) (names b.U) [],
               )))
             where
-              last : Refit g ((a := t) ∷ R) ns' ((b.A == b.U) ∷ p.others) → Met range n ((a := t) ∷ R) ns'
+              last : Refit g ((a := t) ∷ R) ns' ((b.A ≐ b.U) ∷ p.others) → Met range n ((a := t) ∷ R) ns'
               last f =
                   record {
                     good = f.good;

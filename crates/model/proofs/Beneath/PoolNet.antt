@@ -8,7 +8,7 @@ use Rattle.calculus.proofs.Beneath.Count.{δ_same, δ-cases, sum-append, sum-eqs
 use Rattle.calculus.proofs.Beneath.Perm.{perm_shift, perm_append_right}
 use Rattle.calculus.proofs.Beneath.Rename.{≈-alike}
 use Rattle.calculus.proofs.Beneath.Sub.{Sides_equivalence, back, ≈of}
-use Rattle.calculus.specs.Terms.{occurs, δ, count, keep, step, Sides, var, Term, Terms, Eqn, ◌==◌, Conf, names}
+use Rattle.calculus.specs.Terms.{occurs, δ, count, keep, step, Sides, var, Term, Terms, Eqn, ◌≐◌, Conf, names}
 use Rattle.calculus.specs.Terms.{eqs_names}
 use Rattle.parts.specs.Sides.{Side, name, Pair, ◌:=◌}
 use Rattle.model.specs.Table.{Cell}
@@ -56,11 +56,11 @@ same_net range n g f =
 
 -- An equation of two names, read.
 names-pair : {mem : ℕ → Cell} {x y : ℕ} {ts : Terms} {cs : List ℕ} (d : Term) → Reads mem (name x ∷ name y ∷ []) ts cs
-    → ((first_term ts d == first_term (rest_terms ts) d) ≡ (var x == var y)) × (cs ≡ [])
+    → ((first_term ts d ≐ first_term (rest_terms ts) d) ≡ (var x ≐ var y)) × (cs ≡ [])
 names-pair d (by_name (by_name Reads.none)) = (refl, refl)
 
 two_names : {mem : ℕ → Cell} {x y : ℕ} {m : List Eqn} {cs : List ℕ} → ReadsAll mem ((name x := name y) ∷ []) m cs
-    → (m ≡ (var x == var y) ∷ []) × (cs ≡ [])
+    → (m ≡ (var x ≐ var y) ∷ []) × (cs ≡ [])
 two_names (pairs {t = t} r no_pairs) = let k = names-pair t r in (ap (λ e. e ∷ []) k.0, ap (λ l. l ++ []) k.1)
 
 -- A name equal to itself taken out, and one more loop counted.
@@ -75,7 +75,7 @@ module _ (B : Book) {mem : ℕ → Cell} {liv : ℕ → ℕ} {face : List Side} 
       go : Part mem ((name x := name x) ∷ []) R g.eqs g.c₁ → Looped P' (set ns x 0)
       go p = on (two_names p.it)
         where
-          on : (p.eqs ≡ (var x == var x) ∷ []) × (p.its ≡ []) → Looped P' (set ns x 0)
+          on : (p.eqs ≡ (var x ≐ var x) ∷ []) × (p.its ≡ []) → Looped P' (set ns x 0)
           on q = last (refit g p (set ns x 0) k no_pairs (λ c. ap (count c) (sym q.1)) uses)
             where
               here : x < length ns
@@ -115,6 +115,6 @@ module _ (B : Book) {mem : ℕ → Cell} {liv : ℕ → ℕ} {face : List Side} 
                         (next-loop (bare_conf g) range n (good_in_range g range n h))
                         f.terms
                         (step
-                        (perm_shift Sides_equivalence f.good.eqs (var (range + n) == var (range + n)) (circles range n))
+                        (perm_shift Sides_equivalence f.good.eqs (var (range + n) ≐ var (range + n)) (circles range n))
                         (keep Sides.same (perm_append_right Sides_equivalence (circles range n) (back f.order))));
                   }

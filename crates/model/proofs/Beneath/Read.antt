@@ -9,7 +9,7 @@ use Rattle.calculus.proofs.Beneath.Count.{δ_same, δ_other, δ-cases, sum-appen
 use Rattle.calculus.proofs.Beneath.Count.{sub-eqs-fixed}
 use Rattle.calculus.proofs.Beneath.Rename.{≈_trans, ≈-alike, exchange, exchanging, exchange_left, exchange_other}
 use Rattle.calculus.proofs.Beneath.Sub.{sub-∼, ≈of, back}
-use Rattle.calculus.specs.Terms.{δ, count, occurs, step, ren, var, Term, Eqn, ◌==◌, Conf, ◌∼◌, names, eqs_names}
+use Rattle.calculus.specs.Terms.{δ, count, occurs, step, ren, var, Term, Eqn, ◌≐◌, Conf, ◌∼◌, names, eqs_names}
 use Rattle.model.specs.Reading.{circles}
 
 pub record Read (B : Book) (C : Conf) (M : List Label) (C' : Conf) : Type 0 where
@@ -21,8 +21,8 @@ abbrev with_eqs : Conf → List Eqn → Conf
 with_eqs C l = record { face = C.face; eqs = l }
 
 -- The name of an equation x = x may be any other that does not occur.
-reloop : {C : Conf} {x n : ℕ} {l : List Eqn} → Valid C → C.eqs ∼ (var x == var x) ∷ l → occurs n C ≡ 0
-    → C ≈ with_eqs C ((var n == var n) ∷ l)
+reloop : {C : Conf} {x n : ℕ} {l : List Eqn} → Valid C → C.eqs ∼ (var x ≐ var x) ∷ l → occurs n C ≡ 0
+    → C ≈ with_eqs C ((var n ≐ var n) ∷ l)
 reloop {C} {x} {n} {l} v p z =
     record {
       names_by = exchanging x n;
@@ -30,7 +30,7 @@ reloop {C} {x} {n} {l} v p z =
       eqs =
           step
           (sub-∼ σ p)
-          (≈of (ap₂ ◌∷◌ (ap (λ y. var y == var y) (exchange_left x n)) (sub-eqs-fixed σ l (λ y k. ap var (fixes y (omega arith))))));
+          (≈of (ap₂ ◌∷◌ (ap (λ y. var y ≐ var y) (exchange_left x n)) (sub-eqs-fixed σ l (λ y k. ap var (fixes y (omega arith))))));
       free = λ y k. exchange_other (λ e. omega (arith, k, parts y, δ_same y, ap (δ y) e)) (λ e. omega (arith, k, z, ap (λ w. occurs w C) e));
     }
   where
@@ -47,9 +47,9 @@ reloop {C} {x} {n} {l} v p z =
         (λ e. omega (arith, k, z, parts y, ap (λ w. occurs w C) e))
 
 -- x = x taken out and a loop counted: no change.
-pub closes : {B : Book} {C C' : Conf} {x n : ℕ} {l : List Eqn} → Valid C → C.eqs ∼ (var x == var x) ∷ l
+pub closes : {B : Book} {C C' : Conf} {x n : ℕ} {l : List Eqn} → Valid C → C.eqs ∼ (var x ≐ var x) ∷ l
     → occurs n C ≡ 0
-    → C'.face ≡ C.face → C'.eqs ∼ (var n == var n) ∷ l → Read B C [] C'
+    → C'.face ≡ C.face → C'.eqs ∼ (var n ≐ var n) ∷ l → Read B C [] C'
 closes {C = C} v p z e q = record { state = C; way = done; equal = ≈_trans (reloop v p z) (≈-alike (sym e) (back q)) }
 
 circle-names : (range n x : ℕ) → range + n ≤ x → count x (eqs_names (circles range n)) ≡ 0

@@ -7,7 +7,7 @@ use Prim.Native.Nat.{ℕ, zero, suc, ◌+◌, ◌*◌, ◌≤◌, ◌<◌}
 use Rattle.std.proofs.Math.Decide.{dec_lt}
 use Rattle.std.proofs.Math.ListN.{length, get_or}
 use Rattle.calculus.proofs.Beneath.Count.{δ_same, δ-cases, sum-append}
-use Rattle.calculus.specs.Terms.{sum, δ, count, var, node, nil, cons, Term, Terms, Eqn, ◌==◌, names, eqs_names}
+use Rattle.calculus.specs.Terms.{sum, δ, count, var, node, nil, cons, Term, Terms, Eqn, ◌≐◌, names, eqs_names}
 use Rattle.parts.specs.Sides.{Side, name, cell, Pair, ◌:=◌}
 use Rattle.model.specs.Table.{Cell}
 use Rattle.model.specs.Reading.{Reads, by_name, by_cell, ReadsAll, no_pairs, pairs}
@@ -221,7 +221,7 @@ sum-most f m (c ∷ l) h = omega (arith, h c, sum-most f m l h)
 -- A pool as a list of sides.
 abbrev pub equation_terms : List Eqn → Terms
 equation_terms [] = nil
-equation_terms ((t == u) ∷ m) = cons t (cons u (equation_terms m))
+equation_terms ((t ≐ u) ∷ m) = cons t (cons u (equation_terms m))
 
 pub flat : {mem : ℕ → Cell} {l : List Pair} {m : List Eqn} {cs : List ℕ} → ReadsAll mem l m cs
     → Reads mem (sides_of l) (equation_terms m) cs
@@ -230,7 +230,7 @@ flat (pairs r w) = reads-append r (flat w)
 
 pub flat-names : (x : ℕ) (m : List Eqn) → count x (names (equation_terms m)) ≡ count x (eqs_names m)
 flat-names x [] = refl
-flat-names x ((t == u) ∷ m) =
+flat-names x ((t ≐ u) ∷ m) =
     omega (
       arith,
       flat-names x m,
@@ -290,7 +290,7 @@ unflat {mem} ((a := b) ∷ l) {ts} {cs} r = go (apart (a ∷ b ∷ []) r) (λ ts
         on : TwoRead mem a b p.us p.ds → Unflat mem l p.vs p.es → Unflat mem ((a := b) ∷ l) ts cs
         on q k =
             record {
-              m = (q.t == q.u) ∷ k.m;
+              m = (q.t ≐ q.u) ∷ k.m;
               ds = p.ds ++ k.ds;
               reads = pairs q.reads k.reads;
               cells = λ c. omega (arith, p.cells c, k.cells c, sum-append (δ c) p.ds k.ds);

@@ -3,7 +3,7 @@ use Rattle.std.specs.Prelude.{ℕ, ◌+◌, ◌*◌, ◌≤◌, ◌≡◌, refl,
 use Rattle.std.proofs.Common.{sym, ap, ◌∙◌, arith, length-append}
 use Rattle.std.proofs.Math.Decide.{ℕ_discrete}
 use Rattle.parts.specs.Limits.{names_max}
-use Rattle.calculus.specs.Terms.{Sort, one, Tree, var, node, nil, cons, Term, Eqn, ◌==◌, Conf, names, eqs_names, δ, count, if_eq, none, keep, swap, step, Sides, ◌∼◌}
+use Rattle.calculus.specs.Terms.{Sort, one, Tree, var, node, nil, cons, Term, Eqn, ◌≐◌, Conf, names, eqs_names, δ, count, if_eq, none, keep, swap, step, Sides, ◌∼◌}
 use Rattle.calculus.proofs.Beneath.Count.{sum-append, if_yes, if_no}
 use Rattle.model.specs.State.{St}
 use Rattle.model.specs.Table.{Table}
@@ -24,7 +24,7 @@ tie_names (node a ts) (node b us) = 0
 
 abbrev tied_names : List Eqn → ℕ
 tied_names [] = 0
-tied_names ((t == u) ∷ l) = tie_names t u + tied_names l
+tied_names ((t ≐ u) ∷ l) = tie_names t u + tied_names l
 
 tie_names-turn : (t u : Term) → tie_names t u ≡ tie_names u t
 tie_names-turn (var x) (var y) = go (ℕ_discrete x y)
@@ -36,14 +36,14 @@ tie_names-turn (var x) (node b us) = refl
 tie_names-turn (node a ts) (var y) = refl
 tie_names-turn (node a ts) (node b us) = refl
 
-tie_names-sides : {t u s r : Term} → Sides (t == u) (s == r) → tie_names t u ≡ tie_names s r
+tie_names-sides : {t u s r : Term} → Sides (t ≐ u) (s ≐ r) → tie_names t u ≡ tie_names s r
 tie_names-sides Sides.same = refl
 tie_names-sides {t} {u} Sides.turn = tie_names-turn t u
 
 tied_names-∼ : {l m : List Eqn} → l ∼ m → tied_names l ≡ tied_names m
 tied_names-∼ none = refl
-tied_names-∼ (keep {a = t == u} {b = s == r} e p) = omega (arith, tie_names-sides e, tied_names-∼ p)
-tied_names-∼ (swap {a = t == u} {b = s == r}) = omega arith
+tied_names-∼ (keep {a = t ≐ u} {b = s ≐ r} e p) = omega (arith, tie_names-sides e, tied_names-∼ p)
+tied_names-∼ (swap {a = t ≐ u} {b = s ≐ r}) = omega arith
 tied_names-∼ (step p q) = tied_names-∼ p ∙ tied_names-∼ q
 
 -- A reading shows no more names than it takes.
@@ -80,7 +80,7 @@ read-few (ℕ.suc n) t S = read_by-few (read n) (λ u R. omega (arith, read-few 
 -- What occurs in equations is in stuck pairs, or in ties and joins, or in loops.
 stuck-names : (l : List Eqn) → length (names (sides (stuck l))) + tied_names l ≤ length (eqs_names l)
 stuck-names [] = omega arith
-stuck-names ((t == u) ∷ l) =
+stuck-names ((t ≐ u) ∷ l) =
     omega (arith, pair t u (stuck l), stuck-names l, length-append (names t ++ names u) (eqs_names l), length-append (names t) (names u))
   where
     pair : (t u : Term) (l : List Eqn)
@@ -99,12 +99,12 @@ stuck-names ((t == u) ∷ l) =
 circles_tied : (l : List Eqn) (range k : ℕ) → tied_names (l ++ circles range k) ≡ tied_names l
 circles_tied [] range ℕ.zero = refl
 circles_tied [] range (ℕ.suc k) = omega (arith, if_yes {A = ℕ} {x = range + k} 0 2 refl, circles_tied [] range k)
-circles_tied ((t == u) ∷ l) range k = omega (arith, circles_tied l range k)
+circles_tied ((t ≐ u) ∷ l) range k = omega (arith, circles_tied l range k)
 
 circles-stuck : (l : List Eqn) (range k : ℕ) → stuck (l ++ circles range k) ≡ stuck l
 circles-stuck [] range ℕ.zero = refl
 circles-stuck [] range (ℕ.suc k) = circles-stuck [] range k
-circles-stuck ((t == u) ∷ l) range k = ap (λ m. stuck_pair t u ++ m) (circles-stuck l range k)
+circles-stuck ((t ≐ u) ∷ l) range k = ap (λ m. stuck_pair t u ++ m) (circles-stuck l range k)
 
 without_loops : (l : List Eqn) (range k : ℕ)
     → length (names (sides (stuck (l ++ circles range k)))) + tied_names (l ++ circles range k) ≤ length (eqs_names l)

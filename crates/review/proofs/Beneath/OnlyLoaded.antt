@@ -132,7 +132,7 @@ module _ (ags : List Agent) (f g : Word → ℕ) where
       ap₂
       ◌∷◌
       (ap₂
-      Calculus.◌==◌
+      Calculus.◌≐◌
       (tree_same e.left (λ w m. h w (Memᴰ.append_left _ m)))
       (tree_same e.right (λ w m. h w (Memᴰ.append_right (words e.left) (Memᴰ.append_left _ m)))))
       (equations_same es (λ w m. h w (Memᴰ.append_right (words e.left) (Memᴰ.append_right (words e.right) m))))

@@ -3,7 +3,7 @@ use Rattle.std.specs.Prelude.{ℕ, suc, ◌+◌, ◌<◌, ◌≡◌, Bool, true,
 use Rattle.std.proofs.Math.Path.{refl, sym, ap, ap₂, subst}
 use Rattle.std.proofs.Common.{◌∙◌, inl, inr, arith, eq-eqb, ne_eqb}
 use mathlib.Core.List.{List, [], ◌∷◌, ◌++◌, append_assoc, append-nil}
-use Rattle.calculus.specs.Terms.{var, node, nil, cons, Term, Terms, Eqn, ◌==◌, names, eqs_names, δ, count}
+use Rattle.calculus.specs.Terms.{var, node, nil, cons, Term, Terms, Eqn, ◌≐◌, names, eqs_names, δ, count}
 use Rattle.calculus.proofs.Beneath.Count.{δ-cases}
 use Rattle.parts.specs.Sides.{Side, name, cell, Pair, ◌:=◌}
 use Rattle.model.specs.Table.{Cell, no_cell}
@@ -152,8 +152,8 @@ module _ (mem : ℕ → Cell) where
       let t = two s.left in
       let q = equations ps s.right in
       record {
-        eqs = (t.0 == t.1) ∷ q.eqs;
-        reads = subst (ReadsAll mem ((a := b) ∷ ps) ((t.0 == t.1) ∷ q.eqs)) (sym s.cells) (pairs (subst (λ z. Reads mem (a ∷ b ∷ []) z s.ds) t.2 s.left) q.reads);
+        eqs = (t.0 ≐ t.1) ∷ q.eqs;
+        reads = subst (ReadsAll mem ((a := b) ∷ ps) ((t.0 ≐ t.1) ∷ q.eqs)) (sym s.cells) (pairs (subst (λ z. Reads mem (a ∷ b ∷ []) z s.ds) t.2 s.left) q.reads);
         same_names = ap₂ ◌++◌ (pair-names t.0 t.1 ∙ ap names (sym t.2)) q.same_names ∙ (sym (names-append s.us s.vs) ∙ ap names (sym s.terms));
       }
     where

@@ -6,7 +6,7 @@ use mathlib.Core.List.Memᴰ
 use Rattle.std.proofs.lemmas.List.{map-append, length-map}
 use Rattle.std.proofs.Math.Decide.{dec_lt}
 use Rattle.parts.specs.Limits.{arity_max}
-use Rattle.calculus.specs.Terms.{none, keep, step, var, nil, cons, Term, Terms, Eqn, ◌==◌, Sides, same, turn, ◌∼◌, eqs_names, sub_eqn, δ, count, ren}
+use Rattle.calculus.specs.Terms.{none, keep, step, var, nil, cons, Term, Terms, Eqn, ◌≐◌, Sides, same, turn, ◌∼◌, eqs_names, sub_eqn, δ, count, ren}
 use Rattle.calculus.proofs.Beneath.Perm.{Ins, here, there, perm_shift, perm_sym, take}
 use Rattle.calculus.proofs.Beneath.Sub.{Sides_equivalence}
 use Rattle.calculus.proofs.Beneath.Count.{δ_same, δ-cases, if_yes, if_no}
@@ -29,7 +29,7 @@ abbrev pub pair_of : Wire → Pair
 pair_of w = name w.0 := name w.1
 
 abbrev pub eqn_of : Wire → Eqn
-eqn_of w = var w.0 == var w.1
+eqn_of w = var w.0 ≐ var w.1
 
 abbrev turn_of : Wire → Wire
 turn_of w = (turned w.0, turned w.1)
@@ -69,7 +69,7 @@ wires_of mem ps es cs (pairs {a = a} {b = b} {t = t} {u = u} {cs = c} {ds = d} {
     let p = wire mem a b (cons t (cons u nil)) c r z.0 in
     let v = two_terms t u (var p.0) (var p.1) p.4 in
     let q = wires_of mem l m d w z.1 in
-    ((p.0, p.1) ∷ q.0, ap₂ ◌∷◌ (ap₂ ◌:=◌ p.2 p.3) q.1, ap₂ ◌∷◌ (ap₂ ◌==◌ v.0 v.1) q.2)
+    ((p.0, p.1) ∷ q.0, ap₂ ◌∷◌ (ap₂ ◌:=◌ p.2 p.3) q.1, ap₂ ◌∷◌ (ap₂ ◌≐◌ v.0 v.1) q.2)
 
 pub ends-names : (ws : List Wire) → eqs_names (map eqn_of ws) ≡ ends ws
 ends-names [] = refl
@@ -101,14 +101,14 @@ sides-alike v w h = go (match_sides v w h)
     go (inl e) = rw (e.0, e.1) same
     go (inr e) = rw (e.0, e.1) turn
 
-same_match : (a b c d : ℕ) → (var a == var b) ≡ (var c == var d) → matches (a, b) (c, d) ≡ true
+same_match : (a b c d : ℕ) → (var a ≐ var b) ≡ (var c ≐ var d) → matches (a, b) (c, d) ≡ true
 unfolding matches
 same_match a b c d e =
     let x : a ≡ c = cc in
     let y : b ≡ d = cc in
     rw (eq-eqb a c x, eq-eqb b d y)
 
-turn_match : (a b c d : ℕ) → (var a == var b) ≡ (var d == var c) → matches (a, b) (c, d) ≡ true
+turn_match : (a b c d : ℕ) → (var a ≐ var b) ≡ (var d ≐ var c) → matches (a, b) (c, d) ≡ true
 unfolding matches
 turn_match a b c d e =
     let x : a ≡ d = cc in
@@ -123,7 +123,7 @@ alike_match : {e f : Eqn} (v w : Wire) → Sides e f → e ≡ eqn_of v → f �
 alike_match v w same p q = same_match v.0 v.1 w.0 w.1 (sym p ∙ q)
 alike_match v w (turn {t = t} {u = u}) p q = turn_match v.0 v.1 w.0 w.1 (sym p ∙ swapped t u q)
   where
-    swapped : (t u : Term) → (u == t) ≡ eqn_of w → (t == u) ≡ (var w.1 == var w.0)
+    swapped : (t u : Term) → (u ≐ t) ≡ eqn_of w → (t ≐ u) ≡ (var w.1 ≐ var w.0)
     swapped t u e =
         let x : u ≡ var w.0 = cc in
         let y : t ≡ var w.1 = cc in
@@ -330,7 +330,7 @@ module _ (a : ℕ) (h : a ≤ arity_max) where
     exchanges [] r = refl
     exchanges (u ∷ us) r =
         ap₂ (λ e l. e ∷ l)
-        (ap₂ (λ x y. var x == var y) (exchanged u.0 (r u.0 (omega (arith, δ_same u.0)))) (exchanged u.1 (r u.1 (omega (arith, δ_same u.1)))))
+        (ap₂ (λ x y. var x ≐ var y) (exchanged u.0 (r u.0 (omega (arith, δ_same u.0)))) (exchanged u.1 (r u.1 (omega (arith, δ_same u.1)))))
         (exchanges us (λ x k. r x (omega (arith, k))))
 
     -- the test, and the condition of the calculus
