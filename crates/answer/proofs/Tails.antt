@@ -12,7 +12,8 @@ use Rattle.parts.specs.Limits.{cells_max, names_max, face_max}
 use Rattle.parts.specs.Sides.{Side, side}
 use Rattle.model.specs.State.{St, used, unpack, zeros, listed}
 use Rattle.model.specs.Sound.{Sizes, sides}
-use Rattle.model.proofs.Beneath.Ranges.{LiveSide, face-live, stuck-live}
+use Rattle.model.specs.Ranges.{LiveSide}
+use Rattle.model.proofs.Beneath.Ranges.{face-live, stuck-live}
 use Rattle.texts.specs.Bytes.{Word}
 use Rattle.texts.specs.Books.{word_face, word_eq}
 use Rattle.table.specs.Layout.{agents_in}

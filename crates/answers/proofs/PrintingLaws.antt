@@ -12,7 +12,8 @@ use Rattle.model.specs.Table.{Table}
 use Rattle.model.specs.Sound.{Sound, mem_of, width, sides}
 use Rattle.model.specs.SoundTable.{SoundTable}
 use Rattle.model.proofs.Beneath.Facts.{zeros-length}
-use Rattle.model.proofs.Beneath.Ranges.{LiveSide, face-live, stuck-live}
+use Rattle.model.specs.Ranges.{LiveSide}
+use Rattle.model.proofs.Beneath.Ranges.{face-live, stuck-live}
 use Rattle.texts.specs.Bytes.{Word}
 use Rattle.texts.specs.Books.{Agent, word_face, word_eq}
 use Rattle.answers.proofs.Beneath.Live.{all_taken, all_pairs, args-live, bonds-live}

@@ -6,9 +6,9 @@ use Rattle.texts.specs.Books as Books
 use Rattle.texts.specs.Answers.{OfLine, fine, fault, refuse}
 use Rattle.texts.specs.RuleText.{fault9, fault10}
 use Rattle.texts.specs.Coded.{template}
-use Rattle.texts.proofs.Beneath.RuleSound.{SoundRule}
+use Rattle.texts.specs.RuleSound.{SoundRule}
 use Rattle.texts.specs.Bytes.{In}
-use Rattle.texts.proofs.Beneath.Templates.{Few}
+use Rattle.texts.specs.Templates.{Few}
 use Rattle.table.specs.declared.Rule.{Rule}
 use Rattle.table.specs.Layout.{rules_in, agents_in, table_bytes}
 use Rattle.table.specs.Rule.{stands}

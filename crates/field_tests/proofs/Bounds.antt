@@ -11,7 +11,7 @@ use lib.Dec.{eqb, leb}
 use borrow.Author.Tests.{eq-eqb, ne_eqb, le-leb, lt-leb}
 use Rattle.parts.specs.Limits.{identifier_max, level_max}
 use Rattle.texts.specs.Bytes.{word_byte}
-use Rattle.texts.proofs.Beneath.Walk.{depth}
+use Rattle.texts.specs.Walk.{depth}
 use Rattle.field_tests.specs.Sized.{passes, begun, big_from, big_at}
 
 -- the brackets open after a byte

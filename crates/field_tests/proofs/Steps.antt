@@ -11,10 +11,10 @@ use lib.Seq.{drop-cons}
 use lib.Dec.{eqb}
 use borrow.Author.Tests.{eq-eqb, ne_eqb}
 use Rattle.texts.specs.Bytes.{word_byte}
-use Rattle.texts.proofs.Beneath.Scan.{want, shut, lost}
-use Rattle.texts.proofs.Beneath.Scan.{word}
-use Rattle.texts.proofs.Beneath.Scan.{after_term, next, scan, done}
-use Rattle.texts.proofs.Beneath.Scan as Flat
+use Rattle.texts.specs.Scan.{want, shut, lost}
+use Rattle.texts.specs.Scan.{word}
+use Rattle.texts.specs.Scan.{after_term, next, scan, done}
+use Rattle.texts.specs.Scan as Flat
 use Rattle.scan.specs.Words.{heads}
 use Rattle.field_tests.specs.Laws.Spelling.{lost_on, lost-scan}
 use Rattle.field_tests.specs.Spelled.{plain, open_of, is_lost, lost_at, misspelt_at}

@@ -2,7 +2,7 @@
 use Rattle.std.specs.Prelude.{ℕ, ◌+◌, ◌-◌, Bool, cond, ◌&&◌, ◌||◌, List, [], ◌∷◌, leb}
 use Rattle.parts.specs.Limits.{identifier_max, level_max}
 use Rattle.texts.specs.Bytes.{word_byte}
-use Rattle.texts.proofs.Beneath.Walk.{depth}
+use Rattle.texts.specs.Walk.{depth}
 
 -- a byte of an identifier inside too many brackets, or of one with its full length n before it
 unfoldable pub passes : ℕ → ℕ → ℕ → Bool

@@ -1,10 +1,10 @@
 -- The flat spelling pass by places: where a field stops to be the spelling of a term.
 use Rattle.std.specs.Prelude.{ℕ, suc, Bool, true, false, cond, List, [], ◌∷◌}
 use Rattle.std.proofs.Math.Option.{Option, none, some}
-use Rattle.texts.proofs.Beneath.Scan.{want, shut, lost}
-use Rattle.texts.proofs.Beneath.Scan.{word}
-use Rattle.texts.proofs.Beneath.Scan.{next, scan, done}
-use Rattle.texts.proofs.Beneath.Scan as Flat
+use Rattle.texts.specs.Scan.{want, shut, lost}
+use Rattle.texts.specs.Scan.{word}
+use Rattle.texts.specs.Scan.{next, scan, done}
+use Rattle.texts.specs.Scan as Flat
 use Rattle.field_tests.specs.declared.spelling.Scan.{Scan}
 use Rattle.field_tests.specs.declared.spelling.Scan.TheVariants.{Want, Word, Shut, Lost}
 use Rattle.field_tests.specs.declared.spelling.Spelling.{Spelling}

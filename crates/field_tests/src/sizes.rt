@@ -1,7 +1,7 @@
 // Number 5 on one field, by one flat pass: an identifier that is too long, or inside too many brackets.
 ghost use Rattle.std.specs.Prelude.{◌≡◌, ◌<◌};
 ghost use Rattle.texts.specs.RuleText.{is_too_long};
-ghost use Rattle.texts.proofs.Beneath.Walk as Walk;
+ghost use Rattle.texts.specs.Walk as Walk;
 ghost use Rattle.field_tests.specs.Sized as Sized;
 
 use parts::Limits;

@@ -1,6 +1,6 @@
 // Number 4: whether a field spells a term, whatever its depth, by one flat pass with a count of the brackets open.
 ghost use Rattle.std.specs.Prelude.{◌≡◌, ◌<◌};
-ghost use Rattle.texts.proofs.Beneath.Scan as Flat;
+ghost use Rattle.texts.specs.Scan as Flat;
 ghost use Rattle.field_tests.specs.Spelled.{plain, open_of, is_lost, misspelt_at, wrong_at};
 
 use scan::bytes::{head_byte, word_byte};

@@ -14,7 +14,8 @@ use Rattle.texts.specs.Terms.{Term, nodes}
 use Rattle.texts.specs.Books.{Agent, declared}
 use Rattle.texts.specs.Answers.{absent, ◌>>=◌}
 use Rattle.texts.specs.RuleText.{Counts, header_of, terms_of, big_node}
-use Rattle.texts.proofs.Beneath.Passes.{misspelt, terms-absent}
+use Rattle.texts.specs.Passes.{misspelt}
+use Rattle.texts.proofs.Beneath.Passes.{terms-absent}
 use Rattle.scan.specs.Cutting.{field_start}
 use Rattle.scan.specs.Numbers.{value_of}
 use Rattle.scan.specs.declared.numbers.Number.{Number}

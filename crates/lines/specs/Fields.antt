@@ -4,8 +4,8 @@ use Rattle.std.proofs.Math.Option.{Option, none, some}
 use Rattle.texts.specs.Bytes.{Word, any, fields, number_of}
 use Rattle.texts.specs.Answers.{◌>>=◌}
 use Rattle.texts.specs.RuleText.{Counts}
-use Rattle.texts.proofs.Beneath.Walk.{walk}
-use Rattle.texts.proofs.Beneath.Passes.{big_met}
+use Rattle.texts.specs.Walk.{walk}
+use Rattle.texts.specs.Passes.{big_met}
 use Rattle.lines.specs.declared.Header.{Header}
 
 -- what an answer about a header stands for

@@ -5,7 +5,7 @@ ghost use Rattle.texts.specs.Bytes.{any, fields};
 ghost use Rattle.texts.specs.Terms.{Term, nodes};
 ghost use Rattle.texts.specs.Answers.{absent};
 ghost use Rattle.texts.specs.RuleText.{header_of, terms_of, big_node};
-ghost use Rattle.texts.proofs.Beneath.Passes as Passes;
+ghost use Rattle.texts.specs.Passes as Passes;
 ghost use Rattle.scan.specs.Cutting.{field_start};
 ghost use Rattle.lines.specs.Fields.{counts_of, both_counts, too_big};
 

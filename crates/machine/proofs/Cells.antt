@@ -13,7 +13,8 @@ use Rattle.parts.specs.Sides as Plain
 use Rattle.model.proofs.Kept.{step_sound}
 use Rattle.model.proofs.Beneath.Bonds.{◌≃◌}
 use Rattle.model.proofs.Beneath.Parts.{part}
-use Rattle.model.proofs.Beneath.Ranges.{LiveSide, waiting-live}
+use Rattle.model.specs.Ranges.{LiveSide}
+use Rattle.model.proofs.Beneath.Ranges.{waiting-live}
 use Rattle.model.proofs.Beneath.Selves.{picked-out}
 use Rattle.model.proofs.Beneath.Stepped.{Finds, FoundAt, finds}
 use Rattle.model.specs.Reading.{Reads, by_cell, ReadsAll, no_pairs, pairs, pool_of}

@@ -17,7 +17,8 @@ use Rattle.parts.specs.declared.NameNo.{NameNo}
 use Rattle.parts.specs.declared.CellNo.{CellNo}
 use Rattle.parts.specs.declared.Side.{Side}
 use Rattle.parts.specs.declared.Side.TheVariants.{Name, Cell}
-use Rattle.model.proofs.Beneath.Ranges.{LiveSide, waiting-live, bond-live}
+use Rattle.model.specs.Ranges.{LiveSide}
+use Rattle.model.proofs.Beneath.Ranges.{waiting-live, bond-live}
 use Rattle.model.proofs.Beneath.Tabled.{acts}
 use Rattle.model.specs.Rows.{NoRoom, for_interaction, for_loop, for_joined_loop, Joined}
 use Rattle.model.specs.Sound.{Sound}

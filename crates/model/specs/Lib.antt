@@ -14,3 +14,4 @@ pub mod Walk
 pub mod Rows
 pub mod Agree
 pub mod Test
+pub mod Ranges

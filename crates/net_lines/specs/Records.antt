@@ -7,7 +7,7 @@ use Rattle.texts.specs.Books.{Agent, Net, net_terms}
 use Rattle.texts.specs.Answers.{OfLine, fault, need, refuse}
 use Rattle.texts.specs.RuleText.{terms_of}
 use Rattle.texts.specs.NetText.{face_line, eq_line, net_lines}
-use Rattle.texts.proofs.Beneath.Splitting.{ended_line}
+use Rattle.texts.specs.Bytes.{ended_line}
 use Rattle.terms.specs.Sheet.{Sheet}
 use Rattle.net_lines.specs.Draft.{Draft}
 use Rattle.net_lines.specs.Judging.{verdict}

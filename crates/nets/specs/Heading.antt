@@ -3,7 +3,7 @@ use Rattle.std.specs.Prelude.{ℕ, ◌≡◌, List}
 use Rattle.texts.specs.Books.{word_net}
 use Rattle.texts.specs.Answers.{fine, fault}
 use Rattle.texts.specs.RuleText.{header_line}
-use Rattle.texts.proofs.Beneath.Splitting.{ended_line}
+use Rattle.texts.specs.Bytes.{ended_line}
 use Rattle.nets.specs.declared.front.First.{First}
 use Rattle.nets.specs.declared.front.First.TheVariants.{Wrong, Counted}
 

@@ -3,7 +3,7 @@ ghost use Rattle.std.specs.Prelude.{◌≡◌, [], suc, ◌≤◌, length, drop}
 ghost use Rattle.parts.specs.Limits.{net_equations_max};
 ghost use Rattle.texts.specs.Books.{word_net};
 ghost use Rattle.texts.specs.RuleText.{header_line};
-ghost use Rattle.texts.proofs.Beneath.Splitting.{ended_line};
+ghost use Rattle.texts.specs.Bytes.{ended_line};
 ghost use Rattle.terms.specs.Agents.{agents_of};
 ghost use Rattle.terms.specs.Sheet.{view};
 ghost use Rattle.net_lines.specs.Draft.{Draft};

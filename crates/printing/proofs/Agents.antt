@@ -9,7 +9,8 @@ use Rattle.parts.specs.Sides.{Side, cell, side}
 use Rattle.parts.specs.declared.CellNo.{CellNo}
 use Rattle.model.specs.State.{St, used}
 use Rattle.model.specs.Sound.{mem_of, width}
-use Rattle.model.proofs.Beneath.Ranges.{LiveSide, argument_live}
+use Rattle.model.specs.Ranges.{LiveSide}
+use Rattle.model.proofs.Beneath.Ranges.{argument_live}
 use Rattle.table.specs.Layout.{agents_in}
 use Rattle.state.specs.Layout.{view}
 use Rattle.state.specs.declared.Part.TheVariants.{Arguments}

@@ -13,7 +13,7 @@ use Rattle.parts.specs.declared.Side.TheVariants as Typed
 use Rattle.parts.specs.declared.NameNo.{NameNo}
 use Rattle.parts.specs.declared.CellNo.{CellNo}
 use Rattle.model.specs.State.{St, bond, to}
-use Rattle.model.proofs.Beneath.Ranges.{LiveSide}
+use Rattle.model.specs.Ranges.{LiveSide}
 use Rattle.answers.specs.Text.{numeral}
 use Rattle.answers.specs.Printing.{numbered, numbered_both}
 use Rattle.answers.proofs.PrintingLaws.{side-cell, side-known, side-bare, side-joined, side_tied}

@@ -15,7 +15,7 @@ use Rattle.parts.specs.declared.CellNo.{CellNo}
 use Rattle.model.specs.State.{St}
 use Rattle.model.specs.Sound.{Sizes, mem_of, width}
 use Rattle.model.proofs.Beneath.Cellwork.{width_small}
-use Rattle.model.proofs.Beneath.Ranges.{LiveSide}
+use Rattle.model.specs.Ranges.{LiveSide}
 use Rattle.table.specs.Layout.{agents_in}
 use Rattle.state.specs.Layout.{view}
 use Rattle.state.specs.Places.{size, words}

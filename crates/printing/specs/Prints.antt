@@ -7,7 +7,7 @@ use Rattle.model.specs.State.{St}
 use Rattle.model.specs.Table.{Table}
 use Rattle.model.specs.Sound.{Sound}
 use Rattle.model.specs.SoundTable.{SoundTable}
-use Rattle.model.proofs.Beneath.Ranges.{LiveSide}
+use Rattle.model.specs.Ranges.{LiveSide}
 use Rattle.texts.specs.Books.{Agent}
 use Rattle.table.specs.Layout.{agents_in}
 use Rattle.state.specs.Layout.{view}

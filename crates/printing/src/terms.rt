@@ -1,7 +1,7 @@
 // The printer of sides and cells, which calls itself on arguments and tied terms, the count of cells not yet met falling.
 ghost use Rattle.std.specs.Prelude.{◌+◌, ◌*◌, ◌<◌, ◌≤◌, [], ◌∷◌};
 ghost use Rattle.parts.specs.Sides.{name, cell, side};
-ghost use Rattle.model.proofs.Beneath.Ranges.{LiveSide};
+ghost use Rattle.model.specs.Ranges.{LiveSide};
 ghost use Rattle.state.specs.Layout.{view};
 ghost use Rattle.state.specs.Places.{words};
 ghost use Rattle.answers.specs.Text.{numeral};

@@ -4,7 +4,7 @@
 -- crates/texts/specs/Refused.antt: `rules-refused` and `net-refused` (Demand1Texts) say that it is given so and not else. The
 -- other numbers have their theorems below.
 --
---    1  text longer than the size                           too-long
+--    1  text longer than the size                           too_long
 --    2  byte not allowed, or last line unended              two
 --    3  wrong, missing or misplaced record; ..              three, absent, absent_face
 --    4  identifier or term misspelt, ..                     four

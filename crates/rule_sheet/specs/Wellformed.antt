@@ -5,7 +5,7 @@ use Rattle.texts.specs.Bytes.{any}
 use Rattle.texts.specs.Terms.{nodes}
 use Rattle.texts.specs.Books.{Agent, Rule, lefts, rights, cells_of, new_names_of}
 use Rattle.texts.specs.RuleText.{big_node}
-use Rattle.texts.proofs.Beneath.RuleSound.{SoundRule}
+use Rattle.texts.specs.RuleSound.{SoundRule}
 use Rattle.table.specs.Laws.Whole.{FitAgents}
 use Rattle.rule_tests.specs.Fields.{Fields}
 

@@ -18,7 +18,7 @@ use Rattle.texts.proofs.Beneath.Shapes.{Fits, shape_fields}
 use Rattle.texts.specs.Reader.{term_of}
 use Rattle.texts.proofs.Beneath.Tools.{never, never'}
 use Rattle.texts.proofs.Beneath.Shapes.{to_shape}
-use Rattle.texts.proofs.Beneath.Splitting.{ended_line}
+use Rattle.texts.specs.Bytes.{ended_line}
 use Rattle.texts.proofs.Beneath.Passes.{rule-absent, terms-absent}
 use Rattle.texts.proofs.Beneath.Means.{spell-terms, sides-pairs, even-map}
 use Rattle.scan.specs.Places.{bad_at}

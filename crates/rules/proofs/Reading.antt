@@ -13,7 +13,7 @@ use Rattle.texts.specs.Answers.{OfText, fault, refuse, read_lines}
 use Rattle.texts.specs.Coded.{table_of}
 use Rattle.texts.specs.RuleText.{rule_line}
 use Rattle.texts.specs.Good.{GoodBook}
-use Rattle.texts.proofs.Beneath.Splitting.{ended_line}
+use Rattle.texts.specs.Bytes.{ended_line}
 use Rattle.texts.proofs.Beneath.Reading.{read-fine, read-fault}
 use Rattle.scan.specs.Cutting.{next_line}
 use Rattle.scan.proofs.Beneath.Cutting.{ended_line_lem, unended_line, no_line}

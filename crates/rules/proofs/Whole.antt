@@ -12,7 +12,7 @@ use Rattle.texts.specs.Bytes.{lines, fields, fault2}
 use Rattle.texts.specs.Books.{Book, word_rules}
 use Rattle.texts.specs.Answers.{OfText, OfLine, need, refuse, fine, after, after_line}
 use Rattle.texts.specs.RuleText.{Counts, header_of, header_line, counted, rules_of_lines, read_rules}
-use Rattle.texts.proofs.Beneath.Splitting.{ended_line}
+use Rattle.texts.specs.Bytes.{ended_line}
 use Rattle.scan.specs.Places.{bad_at}
 use Rattle.scan.specs.Cutting.{next_line}
 use Rattle.scan.specs.Laws.Placing.{bad-fault}

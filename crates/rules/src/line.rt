@@ -1,6 +1,6 @@
 // A line of a rule text after its header: 2 to 10 rising, each over the whole line before the next.
 ghost use Rattle.texts.specs.Bytes.{fields};
-ghost use Rattle.texts.proofs.Beneath.Splitting.{ended_line};
+ghost use Rattle.texts.specs.Bytes.{ended_line};
 ghost use Rattle.rule_lines.specs.Judged.{ShapeJudged};
 ghost use Rattle.rules.specs.Lines.{Stands, rule_of, RuleStands, LineJudged};
 

@@ -15,7 +15,8 @@ use Rattle.texts.specs.Answers.{fine, refuse, ◌>>=◌}
 use Rattle.texts.specs.RuleText.{big_node, terms_of, fault5, fault6, fault7, fault8, fault9, fault10, judged}
 use Rattle.texts.specs.Coded.{Table, table_of, template, symbol_of}
 use Rattle.texts.specs.Good.{GoodBook}
-use Rattle.texts.proofs.Beneath.RuleSound.{SoundRule, faults_sound}
+use Rattle.texts.specs.RuleSound.{SoundRule}
+use Rattle.texts.proofs.Beneath.RuleSound.{faults_sound}
 use Rattle.texts.specs.Reader.{term_of}
 use Rattle.texts.proofs.Beneath.Tools.{never, found}
 use Rattle.texts.proofs.Beneath.Agents.{agents-tested, symbol-number}

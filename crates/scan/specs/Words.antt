@@ -1,7 +1,7 @@
 -- Words by their places: what an identifier begins with, and where a word stops.
 use Rattle.std.specs.Prelude.{ℕ, suc, ◌+◌, Bool, cond, not, ◌||◌, List, [], ◌∷◌, map, drop, eqb}
 use Rattle.texts.specs.Bytes.{Word, letter, word_byte}
-use Rattle.texts.proofs.Beneath.Walk.{walk}
+use Rattle.texts.specs.Walk.{walk}
 use Rattle.scan.specs.Places.{place}
 
 -- a letter or underscore

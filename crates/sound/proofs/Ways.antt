@@ -99,7 +99,7 @@ unfolding also
 zeroed_way T s a b c ta tb tc td t u r ea eb ec fa fb fc fd et eu er =
     rw (er, eu, et, fa, fb, fc, fd, ea, eb, ec) (sym (zeroed-parts T s))
 
--- both-ways
+-- both_ways
 pub joined_none : (w : List ℕ) (x y : ℕ) → names_max ≤ y
     → false ≡ (eqb (get_or (view w).names y 0) (bound (name x)) && not (eqb x y))
 unfolding view

@@ -4,3 +4,4 @@ pub mod Agents
 pub mod Words
 pub mod Reader
 pub mod Meaning
+pub mod Reads

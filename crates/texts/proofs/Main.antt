@@ -24,7 +24,8 @@ use Rattle.texts.specs.Conditions.{OfRule, Argued, WellNamed, TwoSided, SpeltAge
 use Rattle.texts.specs.Reader.{term_of}
 use Rattle.texts.proofs.Beneath.Spelling.{term-exact}
 use Rattle.texts.proofs.Beneath.Splitting.{number-exact}
-use Rattle.texts.proofs.Beneath.Scan.{want, scan, done, scan-exact}
+use Rattle.texts.specs.Scan.{want, scan, done}
+use Rattle.texts.proofs.Beneath.Scan.{scan-exact}
 use Rattle.texts.proofs.Beneath.RuleRefusals as Rules
 use Rattle.texts.proofs.Beneath.RuleMeans.{rules-accepted, print_unique}
 use Rattle.texts.proofs.Beneath.BookSound.{sound_table_lem}

@@ -11,3 +11,10 @@ pub mod TableTest
 pub mod Refused
 pub mod Good
 pub mod Conditions
+pub mod Splitting
+pub mod Scan
+pub mod Walk
+pub mod Passes
+pub mod Linear
+pub mod RuleSound
+pub mod Templates

@@ -17,7 +17,8 @@ use Rattle.model.specs.Table.{Cell}
 use Rattle.texts.specs.Bytes.{keep}
 use Rattle.texts.specs.Books.{Agent}
 use Rattle.texts.specs.TableTest.{tally, same_side, args_all}
-use Rattle.texts.proofs.Beneath.Linear.{one, tally-append, tally-cons}
+use Rattle.texts.specs.Linear.{one}
+use Rattle.texts.proofs.Beneath.Linear.{tally-append, tally-cons}
 use Rattle.table.specs.Lists.{tab}
 use Rattle.table.specs.Laws.Lists.{length-tab, tab_at, tab-snoc}
 use Rattle.terms.specs.Sheet.{Sheet}

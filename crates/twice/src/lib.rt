@@ -5,7 +5,7 @@ ghost use Rattle.std.specs.Prelude.{◌≡◌, not, ◌+◌, ◌*◌, ◌<◌, �
 ghost use Rattle.parts.specs.Limits.{arity_max, face_max, net_cells_max, net_names_max, net_equations_max};
 ghost use Rattle.parts.specs.Sides.{name, side};
 ghost use Rattle.texts.specs.TableTest.{tally, same_side, args_all};
-ghost use Rattle.texts.proofs.Beneath.Linear.{one};
+ghost use Rattle.texts.specs.Linear.{one};
 ghost use Rattle.table.specs.Layout.{agents_in};
 ghost use Rattle.table.specs.Lists.{tab};
 ghost use Rattle.terms.specs.Sheet as Sheets;

@@ -14,7 +14,8 @@ use Rattle.model.specs.Table.{Table}
 use Rattle.model.specs.Sound.{Sound, meaning, mem_of, sides}
 use Rattle.model.specs.SoundTable.{SoundTable}
 use Rattle.model.proofs.Beneath.Facts.{zeros-length, zero_at}
-use Rattle.model.proofs.Beneath.Ranges.{LiveSide, face-live, stuck-live}
+use Rattle.model.specs.Ranges.{LiveSide}
+use Rattle.model.proofs.Beneath.Ranges.{face-live, stuck-live}
 use Rattle.texts.specs.Bytes.{tabbed, line_of, text_of}
 use Rattle.texts.specs.Terms.{spell}
 use Rattle.texts.specs.Books.{Agent, pairs, word_face, word_eq, write_face, write_equation}

@@ -8,7 +8,7 @@ use Rattle.model.specs.State.{St, Bond, free, bare, to}
 use Rattle.model.specs.Table.{Cell, Table}
 use Rattle.model.specs.Sound.{mem_of}
 use Rattle.model.proofs.Beneath.Facts.{used-set}
-use Rattle.model.proofs.Beneath.Ranges.{LiveSide}
+use Rattle.model.specs.Ranges.{LiveSide}
 use Rattle.texts.specs.Books.{Agent}
 use Rattle.answers.specs.Printer.{state_bonds}
 use Rattle.answers.specs.Printing.{Pen, pen, Written, numbered, numbered_both, Fits, name_by, side_by, sides_by}

@@ -9,7 +9,8 @@ use Rattle.model.specs.State.{St, Bond, free, bare, to, bond, bound, unpack}
 use Rattle.model.specs.Table.{Table}
 use Rattle.model.specs.Sound.{Sound, mem_of, width}
 use Rattle.model.specs.SoundTable.{SoundTable}
-use Rattle.model.proofs.Beneath.Ranges.{LiveSide, argument_live, bond-live}
+use Rattle.model.specs.Ranges.{LiveSide}
+use Rattle.model.proofs.Beneath.Ranges.{argument_live, bond-live}
 use Rattle.answers.specs.Printer.{pair_sides, state_bonds}
 
 -- What holds of the words that are taken holds of all their sides.

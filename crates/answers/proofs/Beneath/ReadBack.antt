@@ -14,7 +14,8 @@ use Rattle.model.specs.State.{St, Bond, free, bare, to, used, listed}
 use Rattle.model.specs.Table.{Table}
 use Rattle.model.specs.Sound.{Sound, mem_of, meaning, sides}
 use Rattle.model.specs.SoundTable.{SoundTable}
-use Rattle.model.proofs.Beneath.Ranges.{LiveSide, face-live, stuck-live}
+use Rattle.model.specs.Ranges.{LiveSide}
+use Rattle.model.proofs.Beneath.Ranges.{face-live, stuck-live}
 use Rattle.texts.specs.Bytes.{Word, all, letter, digit, word_byte, is_number, number_of, value, decimal, In}
 use Rattle.texts.specs.Terms.{identifier, spell, worded, wordeds}
 use Rattle.texts.specs.Books.{Agent}

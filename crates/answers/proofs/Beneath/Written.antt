@@ -12,7 +12,7 @@ use Rattle.parts.specs.Sides.{Side, name, cell}
 use Rattle.model.specs.State.{St, Bond, free, bare, to}
 use Rattle.model.specs.Table.{Table}
 use Rattle.model.specs.Sound.{mem_of}
-use Rattle.model.proofs.Beneath.Ranges.{LiveSide}
+use Rattle.model.specs.Ranges.{LiveSide}
 use Rattle.texts.specs.Terms.{spell}
 use Rattle.texts.specs.Books.{Agent}
 use Rattle.answers.specs.Answer.{Numbered, Found, unknown, known, find, agents}

@@ -6,7 +6,7 @@ use Rattle.texts.specs.Books as Books
 use Rattle.texts.specs.RuleText.{fault9}
 use Rattle.texts.specs.Coded.{template, table_of}
 use Rattle.texts.specs.TableTest.{pair_test}
-use Rattle.texts.proofs.Beneath.RuleSound.{SoundRule}
+use Rattle.texts.specs.RuleSound.{SoundRule}
 use Rattle.texts.proofs.Beneath.PairTable.{pair-table}
 
 -- Number 9 is given exactly where the table of the book has the pair.

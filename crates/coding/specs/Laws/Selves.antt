@@ -10,9 +10,10 @@ use Rattle.texts.specs.Books as Books
 use Rattle.texts.specs.RuleText.{Wire, fault10, one_sided, within, mirrored, wire_of}
 use Rattle.texts.specs.Coded.{symbol_of, template, arity_at}
 use Rattle.texts.specs.TableTest.{turns_to, is_two_sided}
-use Rattle.texts.proofs.Beneath.RuleSound.{SoundRule}
+use Rattle.texts.specs.RuleSound.{SoundRule}
 use Rattle.texts.proofs.Beneath.Tools.{empty}
-use Rattle.texts.proofs.Beneath.Templates.{Few, template-cells, right_args}
+use Rattle.texts.specs.Templates.{Few}
+use Rattle.texts.proofs.Beneath.Templates.{template-cells, right_args}
 use Rattle.texts.proofs.Beneath.Ranged.{first_arity, second-arity}
 use Rattle.texts.proofs.Beneath.PairTable.{symbol_same}
 use Rattle.texts.proofs.Beneath.Selves.{codes_back, into_back}

@@ -6,8 +6,8 @@ use Rattle.std.proofs.Math.Dec.{leb-suc-suc}
 use Rattle.parts.specs.Limits.{identifier_max, level_max}
 use Rattle.texts.specs.Bytes.{Word, any, letter, digit, word_byte}
 use Rattle.texts.specs.RuleText.{is_too_long}
-use Rattle.texts.proofs.Beneath.Walk.{depth, met, walk}
-use Rattle.texts.proofs.Beneath.Passes.{big_met}
+use Rattle.texts.specs.Walk.{depth, met, walk}
+use Rattle.texts.specs.Passes.{big_met}
 use Rattle.texts.proofs.Beneath.Tools.{never', any_append}
 use Rattle.field_tests.specs.Sized.{passes, begun, big_from, big_at}
 

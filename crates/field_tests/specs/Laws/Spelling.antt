@@ -5,10 +5,11 @@ use Rattle.std.proofs.Math.Option.{Option, none, some}
 use Rattle.texts.specs.Bytes.{letter, digit, word_byte}
 use Rattle.texts.specs.Terms.{Term}
 use Rattle.texts.specs.Reader.{term_of}
-use Rattle.texts.proofs.Beneath.Scan.{Scan, after_term, next, scan, done, scan-exact}
-use Rattle.texts.proofs.Beneath.Scan.{want, shut, lost}
-use Rattle.texts.proofs.Beneath.Scan.{word}
-use Rattle.texts.proofs.Beneath.Passes.{misspelt}
+use Rattle.texts.specs.Scan.{Scan, after_term, next, scan, done}
+use Rattle.texts.proofs.Beneath.Scan.{scan-exact}
+use Rattle.texts.specs.Scan.{want, shut, lost}
+use Rattle.texts.specs.Scan.{word}
+use Rattle.texts.specs.Passes.{misspelt}
 use Rattle.texts.proofs.Beneath.Tools.{never}
 use Rattle.field_tests.specs.Spelled.{is_lost, lost_at, misspelt_at}
 

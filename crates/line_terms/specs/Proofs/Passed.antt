@@ -18,7 +18,7 @@ use Rattle.texts.proofs.Beneath.Tools.{both, neither, any_append}
 use Rattle.scan.specs.Words.{word_end}
 use Rattle.terms.specs.Meaning.{Stops}
 use Rattle.terms.proofs.Beneath.Spelt.{skip, skip_one, here, Ends, stops-ends, open_ends, word-ends, word_here, word-stops}
-use Rattle.terms.proofs.Beneath.Reads.{inner}
+use Rattle.terms.specs.Reads.{inner}
 use Rattle.terms.proofs.Beneath.Trees.{closing-stops}
 use Rattle.line_terms.specs.Arguments.{on_past, last_past, next_past, args_past, after_word, term_past}
 use Rattle.line_terms.specs.declared.arguments.Past.{Past}

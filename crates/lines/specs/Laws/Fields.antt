@@ -7,11 +7,13 @@ use Rattle.std.proofs.lemmas.Bool.{lt-leb, not-true}
 use Rattle.texts.specs.Bytes.{Word, any, all, fields}
 use Rattle.texts.specs.Terms.{Term, nodes}
 use Rattle.texts.specs.RuleText.{terms_of, big_node}
-use Rattle.texts.proofs.Beneath.Splitting.{free, fields-cons, fields_last}
+use Rattle.texts.specs.Splitting.{free}
+use Rattle.texts.proofs.Beneath.Splitting.{fields-cons, fields_last}
 use Rattle.texts.proofs.Beneath.Tools.{both, any_append}
 use Rattle.texts.proofs.Beneath.Means.{spell-terms}
-use Rattle.texts.proofs.Beneath.Passes.{met_in, big_met, big_met_lem}
-use Rattle.texts.proofs.Beneath.Walk.{walk}
+use Rattle.texts.specs.Passes.{met_in, big_met}
+use Rattle.texts.proofs.Beneath.Passes.{big_met_lem}
+use Rattle.texts.specs.Walk.{walk}
 use Rattle.scan.specs.Places.{place, is}
 use Rattle.scan.specs.Cutting.{up_to, tabs, field_start}
 use Rattle.scan.proofs.Beneath.Cutting.{cut-free, cut-mark, cut_all}

@@ -11,8 +11,9 @@ use Rattle.texts.specs.Books.{Agent, declared, cells_of}
 use Rattle.texts.specs.RuleText.{terms_of}
 use Rattle.texts.proofs.Beneath.Splitting.{fields-cons, fields_last}
 use Rattle.texts.proofs.Beneath.Means.{spell-terms}
-use Rattle.texts.proofs.Beneath.Passes.{met_in, met-nodes, words-seen}
-use Rattle.texts.proofs.Beneath.Walk.{Met, depth, met, walk}
+use Rattle.texts.specs.Passes.{met_in}
+use Rattle.texts.proofs.Beneath.Passes.{met-nodes, words-seen}
+use Rattle.texts.specs.Walk.{Met, depth, met, walk}
 use Rattle.scan.specs.Cutting.{field_start}
 use Rattle.scan.specs.Words.{words_in}
 use Rattle.scan.specs.Laws.Wording.{level-free}

@@ -9,7 +9,6 @@ use Rattle.std.proofs.Math.Seq.{length-take-le}
 use Rattle.calculus.proofs.Beneath.Count.{δ_same, δ-cases, sum-append, sum-eqs, sum-eqs-append}
 use Rattle.calculus.proofs.Beneath.Perm.{Ins, perm_ins, perm_append_right, perm_append_left, perm_exchange}
 use Rattle.calculus.specs.Terms.{δ, count, step, var, node, nil, cons, Terms, Eqn, names, eqs_names}
-use Rattle.parts.specs.Limits.{cells_max, names_max}
 use Rattle.parts.specs.Sides.{Side, name, cell, Pair, ◌:=◌, side}
 use Rattle.model.specs.State.{St, equation, unpack, pulled, bound, listed}
 use Rattle.model.specs.Table.{Cell, Table}
@@ -24,6 +23,7 @@ use Rattle.model.proofs.Beneath.Frame.{GoodState, good_of}
 use Rattle.model.proofs.Beneath.Parts.{PairSides_equivalence, Part, part}
 use Rattle.model.proofs.Beneath.Pool.{in_range}
 use Rattle.model.proofs.Beneath.Stepped.{ins_append}
+use Rattle.model.specs.Ranges.{LiveSide}
 
 -- A side is met in what is read.
 abbrev Met : Side → Terms → List ℕ → Type 0
@@ -127,11 +127,6 @@ inner_all {mem} (pairs {t = t} {u = u} {cs = cs} {ds = ds} {m = m} r w) c h = go
           cells = λ d. omega (arith, k.cells d, sum-append (δ d) cs ds);
           names_too = λ y. omega (arith, k.names_too y, sum-append (δ y) (names t ++ names u) (eqs_names m));
         }
-
--- A side in use.
-abbrev pub LiveSide : St → Side → Type 0
-LiveSide st (name x) = (x < names_max) × (0 < get_or st.names x 0)
-LiveSide st (cell c) = (c < cells_max) × (0 < get_or st.symbols c 0)
 
 module _ {T : Table} (h : SoundTable T) (st : St) (s : Sound T st) where
   abbrev g : GoodState T st

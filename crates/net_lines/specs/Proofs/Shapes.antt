@@ -10,7 +10,7 @@ use Rattle.texts.specs.Books.{word_face, word_eq}
 use Rattle.texts.specs.Answers.{fault, absent, need, refuse}
 use Rattle.texts.specs.RuleText.{terms_of}
 use Rattle.texts.specs.NetText.{face_fields, eq_fields}
-use Rattle.texts.proofs.Beneath.Splitting.{ended_line}
+use Rattle.texts.specs.Bytes.{ended_line}
 use Rattle.scan.specs.Places.{bad_at}
 use Rattle.scan.specs.Laws.Placing.{bad-fault}
 use Rattle.scan.proofs.Beneath.Cutting.{count-cons}

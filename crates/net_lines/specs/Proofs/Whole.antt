@@ -11,7 +11,7 @@ use Rattle.texts.specs.Answers.{fault}
 use Rattle.texts.specs.RuleText.{terms_of}
 use Rattle.texts.specs.NetText.{face_fields, eq_fields, net_judged, face_net, more_net, face_line, eq_line, net_lines}
 use Rattle.texts.proofs.Beneath.Means.{spell-terms}
-use Rattle.texts.proofs.Beneath.Splitting.{ended_line}
+use Rattle.texts.specs.Bytes.{ended_line}
 use Rattle.terms.specs.Sheet.{Sheet}
 use Rattle.lines.specs.Names.{between}
 use Rattle.net_lines.specs.Draft.{Draft}

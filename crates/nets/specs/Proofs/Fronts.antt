@@ -13,7 +13,7 @@ use Rattle.texts.specs.Books.{Agent, Net, names_of, net_terms, sides, word_net}
 use Rattle.texts.specs.Answers.{fine, need, refuse, after_line}
 use Rattle.texts.specs.RuleText.{Counts, header_of, header_line}
 use Rattle.texts.specs.NetText.{face_line, face_and_eqs, net_of_lines, net_lines}
-use Rattle.texts.proofs.Beneath.Splitting.{ended_line}
+use Rattle.texts.specs.Bytes.{ended_line}
 use Rattle.scan.specs.Places.{bad_at}
 use Rattle.scan.specs.Cutting.{next_line}
 use Rattle.scan.specs.Laws.Placing.{bad-fault}

@@ -11,7 +11,7 @@ use Rattle.texts.specs.Terms.{Term}
 use Rattle.texts.specs.Books.{Agent, Net, net_terms}
 use Rattle.texts.specs.Answers.{fine, fault, refuse}
 use Rattle.texts.specs.NetText.{eq_line, net_lines}
-use Rattle.texts.proofs.Beneath.Splitting.{ended_line}
+use Rattle.texts.specs.Bytes.{ended_line}
 use Rattle.scan.specs.Places.{place, is}
 use Rattle.scan.specs.Cutting.{up_to, next_line}
 use Rattle.scan.proofs.Beneath.Cutting.{cut-mark, ended_line_lem, unended_line, no_line}

@@ -24,7 +24,8 @@ use Rattle.texts.specs.Terms.{Term, Terms, term, nil, cons, nodes, words_of}
 use Rattle.texts.specs.Books.{Agent, Equation, Net, declared, sides, cells_of, names_of, net_terms}
 use Rattle.texts.specs.Coded.{packed, symbol_of}
 use Rattle.texts.specs.Meaning.{tree, trees, tree_equations}
-use Rattle.texts.proofs.Beneath.Linear.{words, words_in, words_all}
+use Rattle.texts.specs.Linear.{words, words_in}
+use Rattle.texts.proofs.Beneath.Linear.{words_all}
 use Rattle.texts.proofs.Beneath.Places.{in_keep}
 use Rattle.review.specs.Loads.{FirstMet, LoadedSo}
 

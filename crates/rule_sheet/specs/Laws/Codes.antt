@@ -10,7 +10,7 @@ use Rattle.texts.specs.Bytes.{Word, In}
 use Rattle.texts.specs.Terms.{Term, Terms, term, nil, cons}
 use Rattle.texts.specs.Books.{Agent, declared}
 use Rattle.texts.specs.Coded.{symbol_of, size, code_at, codes, cells_at, cells_from}
-use Rattle.texts.proofs.Beneath.Linear.{words, words_in}
+use Rattle.texts.specs.Linear.{words, words_in}
 
 module _ (ags : List Agent) (f g : Word → ℕ) where
   -- The two numbers agree on the names of some words.

@@ -10,12 +10,13 @@ use Rattle.texts.specs.Bytes.{Word, any, all, same, among, index_of, different, 
 use Rattle.texts.specs.Terms.{Term, Terms, term, nil, cons, identifier, worded, wordeds, nodes, words_of}
 use Rattle.texts.specs.Books.{Agent, Rule, declared, args_of, left_args, lefts, rights, names_of, new_names_of}
 use Rattle.texts.specs.Coded.{packed, second_from, new_from, rule_number}
-use Rattle.texts.proofs.Beneath.RuleSound.{SoundRule}
+use Rattle.texts.specs.RuleSound.{SoundRule}
 use Rattle.texts.proofs.Beneath.Tools.{never, both, neither, among_in, in_among}
 use Rattle.texts.proofs.Beneath.Places.{index_left, keep_in}
 use Rattle.texts.proofs.Beneath.TermLists.{among-append}
-use Rattle.texts.proofs.Beneath.Linear.{words, words_in, words_all}
-use Rattle.texts.proofs.Beneath.Templates.{Few}
+use Rattle.texts.specs.Linear.{words, words_in}
+use Rattle.texts.proofs.Beneath.Linear.{words_all}
+use Rattle.texts.specs.Templates.{Few}
 use Rattle.texts.proofs.Beneath.Ranged.{left_names, names_left}
 use Rattle.table.specs.Lists.{tab}
 use Rattle.table.specs.Laws.Lists.{length-tab}

@@ -20,8 +20,10 @@ use Rattle.texts.specs.TableTest.{agent_ok}
 use Rattle.texts.proofs.Beneath.Tools.{both, neither, any_append, all_mono}
 use Rattle.texts.proofs.Beneath.Means.{spell-terms}
 use Rattle.texts.proofs.Beneath.Places.{in_keep}
-use Rattle.texts.proofs.Beneath.Linear.{words_in, words_all}
-use Rattle.texts.proofs.Beneath.Templates.{Few, unpaired-twos, codes-even, template-cells, right_args}
+use Rattle.texts.specs.Linear.{words_in}
+use Rattle.texts.proofs.Beneath.Linear.{words_all}
+use Rattle.texts.specs.Templates.{Few}
+use Rattle.texts.proofs.Beneath.Templates.{unpaired-twos, codes-even, template-cells, right_args}
 use Rattle.texts.proofs.Beneath.Ranged.{first_arity, second-arity, codes_pass}
 use Rattle.texts.proofs.Beneath.TableSound.{all_cells_ok}
 use Rattle.scan.specs.Cutting.{field_start}

@@ -10,7 +10,9 @@ use Rattle.std.proofs.Math.Seq.{drop-drop}
 use Rattle.std.proofs.Math.Dec.{ltb, leb}
 use borrow.Author.Tests.{eqb-true, leb-true, leb-false, ltb-true, ltb-false}
 use Rattle.texts.specs.Bytes.{all, lines, on_field, fields}
-use Rattle.texts.proofs.Beneath.Splitting.{free, ended_line, lines_cons, lines_last}
+use Rattle.texts.specs.Splitting.{free}
+use Rattle.texts.specs.Bytes.{ended_line}
+use Rattle.texts.proofs.Beneath.Splitting.{lines_cons, lines_last}
 use Rattle.scan.specs.Places.{place, is}
 use Rattle.scan.specs.Cutting.{up_to, next_line, tabs, field_start}
 use Rattle.scan.specs.Laws.Cutting.{EndedAt, Told}

@@ -2,7 +2,7 @@
 -- crates/scan/proofs/Beneath/Cutting.antt.
 use Rattle.std.specs.Prelude.{ℕ, suc, ◌-◌, ◌≤◌, ◌<◌, ◌≡◌, false, List, [], ◌∷◌, length, take, drop}
 use Rattle.texts.specs.Bytes.{lines}
-use Rattle.texts.proofs.Beneath.Splitting.{ended_line}
+use Rattle.texts.specs.Bytes.{ended_line}
 use Rattle.scan.specs.Cutting.{up_to}
 use Rattle.scan.specs.declared.cutting.NextLine.{NextLine}
 use Rattle.scan.specs.declared.cutting.NextLine.TheVariants.{Ended, Unended, Nothing}

@@ -4,7 +4,7 @@ use Rattle.std.proofs.Common.{arith, lt-ltb}
 use Rattle.std.proofs.Math.Dec.{leb-suc-suc, eqb-zero-suc, eqb-suc-suc}
 use Rattle.texts.specs.Bytes.{any, all, fault2}
 use Rattle.texts.specs.Bytes as Bytes
-use Rattle.texts.proofs.Beneath.Splitting.{ended_line}
+use Rattle.texts.specs.Bytes.{ended_line}
 use Rattle.scan.specs.Places.{place, bad_at}
 
 pub place_le : (f : ℕ → Bool) (l : List ℕ) → place f l ≤ length l

@@ -4,7 +4,7 @@ use Rattle.std.proofs.Common.{sym, ap, ◌∙◌, append-nil, arith, length-drop
 use Rattle.std.proofs.lemmas.List.{map-append}
 use Rattle.std.proofs.Math.Seq.{append_snoc}
 use Rattle.texts.specs.Bytes.{Word, word_byte}
-use Rattle.texts.proofs.Beneath.Walk.{Met, depth, met, walk}
+use Rattle.texts.specs.Walk.{Met, depth, met, walk}
 use Rattle.scan.specs.Places.{place}
 use Rattle.scan.specs.Laws.Placing.{place_le}
 use Rattle.scan.specs.Words.{word_start, word_end, words_in}

@@ -24,7 +24,7 @@ use Rattle.terms.specs.Meaning.{Stops}
 use Rattle.terms.proofs.Beneath.Numbers.{found-agent, found_none, takes_none}
 use Rattle.terms.proofs.Beneath.Spelt.{skip, skip_one, here, Ends, stops-ends, open_ends, identifier_some, word-ends, word_here, word-stops}
 use Rattle.terms.proofs.Beneath.Heads.{name-bare}
-use Rattle.terms.proofs.Beneath.Reads.{inner}
+use Rattle.terms.specs.Reads.{inner}
 use Rattle.terms.proofs.Beneath.Trees.{closing-stops}
 use Rattle.terms.specs.declared.Got.{Got}
 use Rattle.terms.specs.declared.Head.{Head}

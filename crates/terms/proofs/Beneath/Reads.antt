@@ -9,7 +9,7 @@ use borrow.Author.Tests.{lt-ltb, le-leb}
 use Rattle.parts.specs.Limits.{text_max, identifier_max, arity_max, level_max, net_names_max}
 use Rattle.parts.specs.Sides.{name, cell, code}
 use Rattle.texts.specs.Bytes.{Word, keep, among, index_of}
-use Rattle.texts.specs.Terms.{identifier, Term, Terms, term, nil, cons, spell, closing, Node, count}
+use Rattle.texts.specs.Terms.{identifier, Term, Terms, term, nil, cons, spell, Node, count}
 use Rattle.texts.specs.Books.{Agent, declared, takes}
 use Rattle.model.specs.Table.{Cell}
 use Rattle.texts.specs.Coded.{symbol_of, code_at, cells_at}
@@ -25,6 +25,7 @@ use Rattle.terms.proofs.Beneath.Heads.{name_old, name_new, head-name}
 use Rattle.terms.specs.declared.words.Found.{Found}
 use Rattle.terms.specs.declared.Got.{Got}
 use Rattle.terms.specs.declared.Head.{Head}
+use Rattle.terms.specs.Reads.{inner}
 
 -- An identifier within its sizes that has as many arguments as it takes.
 unfoldable pub right : List Agent → Node → Bool
@@ -45,11 +46,6 @@ names ags ws = keep (λ w. not (declared ags w)) ws
 
 unfoldable pub tally : List Agent → List Word → ℕ
 tally ags ws = length (keep (declared ags) ws)
-
--- what stands between the brackets, the closing one included
-unfoldable pub inner : Terms → List ℕ
-inner nil = []
-inner (cons t ts) = spell t ++ closing ts
 
 -- the sheet after, on which these cells stand behind those before
 pub record Wrote (s t : Sheet) (m : ℕ) (cs : List Cell) : Type 0 where

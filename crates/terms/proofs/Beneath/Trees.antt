@@ -24,7 +24,8 @@ use Rattle.terms.proofs.Beneath.Spelt.{skip, skip_one, here, stops-ends, comma_s
 use Rattle.terms.proofs.Beneath.Written.{Same, cells-kept, cells-append, narrow-append, opened-sized, opened-count, opened-symbol, opened_before, opened-arguments, opened-named, argued-sized, argued-count, argued-symbols, argued_here, argued_other, argued-named}
 use Rattle.terms.proofs.Beneath.Heads.{cell-plain, cell-takes, head-cell}
 use Rattle.terms.proofs.Beneath.Ways.{args-close, args_comma, term-plain, term-args}
-use Rattle.terms.proofs.Beneath.Reads.{right, words, words_in, names, tally, inner, Wrote, TermDone, ArgsDone, name-side, name-cells, name-names, name_tally, agent-side, agent-cells, agent-names, agent-tally, names-append, tally-append, name-head}
+use Rattle.terms.specs.Reads.{inner}
+use Rattle.terms.proofs.Beneath.Reads.{right, words, words_in, names, tally, Wrote, TermDone, ArgsDone, name-side, name-cells, name-names, name_tally, agent-side, agent-cells, agent-names, agent-tally, names-append, tally-append, name-head}
 use Rattle.terms.specs.declared.words.Found.{Found}
 
 -- a term is read, wherever it stands with room for it

@@ -13,7 +13,8 @@ use Rattle.parts.specs.Sides.{name}
 use Rattle.model.specs.Table.{Cell, Entry}
 use Rattle.texts.specs.Coded.{symbol_of, packed, second_from, new_from, rule_number, template, arity_at, unpaired}
 use Rattle.texts.proofs.Beneath.Tools.{both, all_left, all_right, keep_append}
-use Rattle.texts.proofs.Beneath.Linear.{words, words_in, words_all}
+use Rattle.texts.specs.Linear.{words, words_in}
+use Rattle.texts.proofs.Beneath.Linear.{words_all}
 use Rattle.texts.specs.TableTest.{cell_ok, args_all, all_codes, code_ok, met, test_agents, test_template}
 use Rattle.texts.proofs.Beneath.Clauses.{Clauses, clauses_of, Place, on_left, on_right, is_new, place, of_place}
 use Rattle.texts.proofs.Beneath.Agents.{spelt-symbols, few-args, symbol_at}

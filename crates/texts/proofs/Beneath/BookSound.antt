@@ -11,7 +11,8 @@ use Rattle.texts.specs.Coded.{Table, table_of}
 use Rattle.texts.proofs.Beneath.Tools.{never, both, neither, pair, none_of, same_refl, in_split}
 use Rattle.texts.proofs.Beneath.RuleMeans.{rules-accepted, lines-good, good-lines, add_all, add-agents, add-rules}
 use Rattle.texts.specs.Good.{Good, GoodFrom, GoodBook, SoundTable}
-use Rattle.texts.proofs.Beneath.RuleSound.{SoundRule, faults_sound}
+use Rattle.texts.specs.RuleSound.{SoundRule}
+use Rattle.texts.proofs.Beneath.RuleSound.{faults_sound}
 
 -- A book is good exactly where each agent is good after the agents before it, and each rule after all agents and the rules before it.
 good_left : (xs ys : List Record) (b : Book) → GoodFrom b (xs ++ ys) → GoodFrom b xs

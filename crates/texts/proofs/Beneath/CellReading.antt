@@ -14,7 +14,8 @@ use Rattle.texts.specs.Bytes.{keep}
 use Rattle.texts.specs.TableTest.{tally, args_all, same_side, ahead, onward, void, walk, met}
 use Rattle.texts.specs.Coded.{unpaired}
 use Rattle.texts.proofs.Beneath.Tools.{pair, not_empty}
-use Rattle.texts.proofs.Beneath.Linear.{one, tally-cons, tally-append}
+use Rattle.texts.specs.Linear.{one}
+use Rattle.texts.proofs.Beneath.Linear.{tally-cons, tally-append}
 use Rattle.texts.proofs.Beneath.Templates.{name-name, name-cell}
 use Rattle.texts.proofs.Beneath.SideWalk.{walk-name, walk_at, met-name, met-cell, walk_induction}
 

@@ -23,7 +23,7 @@ use Rattle.texts.proofs.Beneath.Forward.{table_pass}
 use Rattle.texts.proofs.Beneath.Backward.{rule, template_back}
 use Rattle.texts.proofs.Beneath.Faultless.{no_7, no_8, no_10, no_big, spelt, sound-rule}
 use Rattle.texts.specs.Good.{Good, GoodFrom, GoodBook, Spelt, Placed, SoundTable}
-use Rattle.texts.proofs.Beneath.RuleSound.{SoundRule}
+use Rattle.texts.specs.RuleSound.{SoundRule}
 
 -- A sound table passes.
 pub sound-passes : (t : Table) → SoundTable t → test_table t ≡ true

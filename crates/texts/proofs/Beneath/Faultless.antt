@@ -19,7 +19,8 @@ use Rattle.texts.specs.Coded.{symbol_of, second_from, new_from, rule_number, tem
 use Rattle.texts.proofs.Beneath.Tools.{both, pair, none_of, false-any, all_true, any_append, same_eq, empty}
 use Rattle.texts.proofs.Beneath.Linear.{takes-name}
 use Rattle.texts.proofs.Beneath.Selves.{codes_back, into_back}
-use Rattle.texts.proofs.Beneath.Templates.{Few, template-cells, template-count, cell_none, name-cell, name-name, tally_ext}
+use Rattle.texts.specs.Templates.{Few}
+use Rattle.texts.proofs.Beneath.Templates.{template-cells, template-count, cell_none, name-cell, name-name, tally_ext}
 use Rattle.texts.proofs.Beneath.NetMeans.{nodes-append}
 use Rattle.texts.specs.TableTest.{tally, all_codes, same_side, code_ok, standing, met, turns_to, is_two_sided, test_agents, test_template}
 use Rattle.texts.proofs.Beneath.Clauses.{of_standing, Place, on_left, on_right, is_new, place}
@@ -29,7 +30,8 @@ use Rattle.texts.proofs.Beneath.Renumbered.{row-length, row_in, row_none, row-di
 use Rattle.texts.proofs.Beneath.Backward.{clauses, few_left, small-code, good-sides, built, args_are, rights-are, met-names, heads-are, first_at, second_at, right_not, new_not, arg_code, arg_plain, arg_undeclared, new_count, code_of, template_back}
 use Rattle.texts.proofs.Beneath.Backward as Back
 use Rattle.texts.specs.Good.{Spelt}
-use Rattle.texts.proofs.Beneath.RuleSound.{SoundRule, faults_sound, of_distinct}
+use Rattle.texts.specs.RuleSound.{SoundRule}
+use Rattle.texts.proofs.Beneath.RuleSound.{faults_sound, of_distinct}
 use Rattle.texts.proofs.Beneath.BookSound.{of_symmetric}
 use Rattle.texts.proofs.Beneath.TermLists.{unpack, unpack-length, bare_terms, bare-heads, named, met_all, among-append, nodes-unpack, worded-unpack, pairs-length, bare-any, bare-worded, two_any, distinct_append, map_in}
 

@@ -18,15 +18,7 @@ use Rattle.model.specs.Table.{Cell}
 use Rattle.texts.specs.Coded.{symbol_of, packed, size, code_at, codes, cells_at, cells_from}
 use Rattle.texts.specs.TableTest.{args_all, tally}
 use Rattle.texts.proofs.Beneath.Tools.{both, pair, neither, any_append, keep_append}
-
--- The words of a term, in reading order.
-unfoldable mutual
-  pub words : Term → List Word
-  words (term w ts) = w ∷ words_in ts
-
-  pub words_in : Terms → List Word
-  words_in nil = []
-  words_in (cons t ts) = words t ++ words_in ts
+use Rattle.texts.specs.Linear.{words, words_in, one}
 
 pub words_append : (ns ms : List Node) → words_of (ns ++ ms) ≡ words_of ns ++ words_of ms
 unfolding words_of
@@ -77,10 +69,6 @@ args-append : (cs ds : List Cell) → args_all (cs ++ ds) ≡ args_all cs ++ arg
 unfolding args_all
 args-append [] ds = refl
 args-append (c ∷ cs) ds = rw (args-append cs ds, append_assoc)
-
--- 1 where the test passes.
-abbrev pub one : Bool → ℕ
-one t = cond t 1 0
 
 pub tally-cons : {A : Type 0} (p : A → Bool) (x : A) (xs : List A) → tally p (x ∷ xs) ≡ one (p x) + tally p xs
 unfolding tally keep

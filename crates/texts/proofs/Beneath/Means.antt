@@ -11,7 +11,8 @@ use Rattle.texts.specs.Books.{Equation, sides, pairs, write_header}
 use Rattle.texts.specs.Answers.{OfLine, fine, absent, need, refuse, ◌>>=◌}
 use Rattle.texts.specs.RuleText.{Counts, header_of, header_line, terms_of, even}
 use Rattle.texts.proofs.Beneath.Tools.{never, both, pair, neither, same_refl, same_eq, found}
-use Rattle.texts.proofs.Beneath.Splitting.{ended_line, fields-line, line-fields, number-decimal, decimal-number}
+use Rattle.texts.specs.Bytes.{ended_line}
+use Rattle.texts.proofs.Beneath.Splitting.{fields-line, line-fields, number-decimal, decimal-number}
 use Rattle.texts.proofs.Beneath.Spelling.{term-spell, spell-term}
 use Rattle.texts.proofs.Beneath.Plain.{in_field, Plain, Plains, word-plain, decimal-plain, line-tabs, line_bytes}
 use Rattle.texts.specs.Reader.{term_of}

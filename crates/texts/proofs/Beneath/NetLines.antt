@@ -9,7 +9,8 @@ use Rattle.texts.specs.Answers.{fine, need, refuse}
 use Rattle.texts.specs.RuleText.{terms_of}
 use Rattle.texts.specs.NetText.{face_fields, eq_fields, net_fault5, net_fault7, net_judged, face_net, more_net, face_line, eq_line}
 use Rattle.texts.proofs.Beneath.Tools.{same_eq}
-use Rattle.texts.proofs.Beneath.Splitting.{ended_line, fields-line, line-fields}
+use Rattle.texts.specs.Bytes.{ended_line}
+use Rattle.texts.proofs.Beneath.Splitting.{fields-line, line-fields}
 use Rattle.texts.proofs.Beneath.Plain.{in_field, Plain, Plains, spells-plain, line-tabs, line_bytes}
 use Rattle.texts.proofs.Beneath.Means.{refuse-fine, need-fine, nothing, line-ended, terms-spell, spell-terms, some_plain}
 use Rattle.texts.specs.Good.{GoodTerms, terms_in}

@@ -10,7 +10,9 @@ use Rattle.texts.specs.Answers.{fine, accepted, refused, read_lines}
 use Rattle.texts.specs.RuleText.{Counts, header_line, big_node}
 use Rattle.texts.specs.NetText.{big_net, net_fault5, face_net, more_net, face_line, eq_line, loose, net_lines, loose_line, unless_loose, names_twice, net_counted, face_and_eqs, net_of_lines, read_net}
 use Rattle.texts.proofs.Beneath.Tools.{both, pair, neither, any_append, keep_append, cons-eq}
-use Rattle.texts.proofs.Beneath.Splitting.{free, ended_line, text-ended, lines-text}
+use Rattle.texts.specs.Splitting.{free}
+use Rattle.texts.specs.Bytes.{ended_line}
+use Rattle.texts.proofs.Beneath.Splitting.{text-ended, lines-text}
 use Rattle.texts.proofs.Beneath.Plain.{word-plain, spells-plain, decimal-plain, line_newlines}
 use Rattle.texts.proofs.Beneath.Means.{two, header-fine}
 use Rattle.texts.proofs.Beneath.NetLines.{words-plain, face_back, face-fine, eq_back, eq-fine}

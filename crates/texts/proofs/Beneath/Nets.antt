@@ -27,8 +27,10 @@ use Rattle.texts.specs.Meaning.{tree, trees, tree_equations, meant_rule, meant_n
 use Rattle.texts.specs.TableTest.{tally, cell_ok, args_all, same_side, met}
 use Rattle.texts.proofs.Beneath.Tools.{both, pair, in_among}
 use Rattle.texts.proofs.Beneath.Places.{index_less, in_different}
-use Rattle.texts.proofs.Beneath.Linear.{words_in, words_all, bare, bares, line-bare, tally-append, cell-count, cells-terms}
-use Rattle.texts.proofs.Beneath.Templates.{Few, name-name, name-cell, right_args, tally_ext, tally_none, cell_none}
+use Rattle.texts.specs.Linear.{words_in}
+use Rattle.texts.proofs.Beneath.Linear.{words_all, bare, bares, line-bare, tally-append, cell-count, cells-terms}
+use Rattle.texts.specs.Templates.{Few}
+use Rattle.texts.proofs.Beneath.Templates.{name-name, name-cell, right_args, tally_ext, tally_none, cell_none}
 use Rattle.texts.proofs.Beneath.Ranged.{numbered-passes, first_arity, second-arity}
 use Rattle.texts.proofs.Beneath.NetSound.{SoundNet, net-sound}
 use Rattle.texts.proofs.Beneath.Loads.{all_sides, ok, sides-are, load-count, name-twice, cells-append}
@@ -36,7 +38,7 @@ use Rattle.texts.proofs.Beneath.TableSound.{load_sound}
 use Rattle.texts.proofs.Beneath.CellReading.{walked, name-count, sidewise, Held}
 use Rattle.texts.proofs.Beneath.Trees.{held_left, held_right, read-terms, read-equations}
 use Rattle.texts.specs.Good.{GoodNet}
-use Rattle.texts.proofs.Beneath.RuleSound.{SoundRule}
+use Rattle.texts.specs.RuleSound.{SoundRule}
 use Rattle.texts.proofs.Beneath.Rows.{in_order, all_at}
 
 -- The number of cells, counted in words and in terms.

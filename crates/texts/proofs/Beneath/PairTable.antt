@@ -10,7 +10,7 @@ use Rattle.texts.specs.Coded.{symbol_of, template}
 use Rattle.texts.specs.TableTest.{pair_test}
 use Rattle.texts.proofs.Beneath.Tools.{never, same_refl, same_eq}
 use Rattle.texts.proofs.Beneath.Places.{same_turn}
-use Rattle.texts.proofs.Beneath.RuleSound.{SoundRule}
+use Rattle.texts.specs.RuleSound.{SoundRule}
 
 index_same : (xs : List Word) (v w : Word) → among v xs ≡ true → among w xs ≡ true → eqb (index_of v xs) (index_of w xs) ≡ same v w
 unfolding index_of among any

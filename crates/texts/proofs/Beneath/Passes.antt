@@ -1,23 +1,21 @@
 -- Numbers 4 and 5 by flat passes over the bytes of the fields: no tree is needed before both are judged.
-use Rattle.std.specs.Prelude.{◌≡◌, refl, Bool, true, false, not, ◌||◌, List, [], ◌∷◌, ◌++◌, map, ltb}
+use Rattle.std.specs.Prelude.{◌≡◌, refl, Bool, true, false, not, ◌||◌, List, [], ◌∷◌, map}
 use Rattle.std.proofs.Common.{sym, ap, ◌∙◌}
 use Rattle.std.proofs.lemmas.List.{map-append}
 use Rattle.std.proofs.Math.Option.{Option, none, some}
-use Rattle.parts.specs.Limits.{level_max}
 use Rattle.texts.specs.Bytes.{Word, any, all, keep}
 use Rattle.texts.specs.Terms.{Term, spell, worded, Node, nodes_at, nodes, words_of}
 use Rattle.texts.specs.Books.{Agent, declared, cells_of, names_of}
 use Rattle.texts.specs.Answers.{absent, ◌>>=◌}
-use Rattle.texts.specs.RuleText.{terms_of, rule_shape, record_of, is_too_long, big_node}
+use Rattle.texts.specs.RuleText.{terms_of, rule_shape, record_of, big_node}
 use Rattle.texts.proofs.Beneath.Tools.{never, both}
-use Rattle.texts.proofs.Beneath.Scan.{want, scan, done, scan-exact}
-use Rattle.texts.proofs.Beneath.Walk.{Met, walk, seen, walk-nodes}
+use Rattle.texts.specs.Scan.{want, scan, done}
+use Rattle.texts.proofs.Beneath.Scan.{scan-exact}
+use Rattle.texts.specs.Walk.{seen}
+use Rattle.texts.proofs.Beneath.Walk.{walk-nodes}
 use Rattle.texts.proofs.Beneath.Means.{nothing}
 use Rattle.texts.specs.Reader.{term_of}
-
--- Number 4.
-unfoldable pub misspelt : Word → Bool
-misspelt f = not (done (scan (want 0) f))
+use Rattle.texts.specs.Passes.{misspelt, met_in, big_met}
 
 term-absent : (f : Word) → absent (term_of f) ≡ misspelt f
 unfolding misspelt absent
@@ -52,20 +50,12 @@ rule-absent f g fs =
     absent_bind (term_of f) _ (absent (term_of g) || absent (terms_of fs)) (λ s. absent_bind (term_of g) _ (absent (terms_of fs)) (λ t. absent_some (terms_of fs) _))
     ∙ rw (term-absent f, term-absent g, terms-absent fs)
 
--- Number 5: what the walks over the fields meet, in reading order.
-unfoldable pub met_in : List Word → List Met
-met_in [] = []
-met_in (f ∷ fs) = walk 0 [] f ++ met_in fs
-
 pub met-nodes : (ts : List Term) → all worded ts ≡ true → met_in (map spell ts) ≡ map seen (nodes ts)
 unfolding met_in nodes all
 met-nodes [] h = refl
 met-nodes (t ∷ ts) h =
     let p = both (worded t) (all worded ts) h in
     rw (walk-nodes t p.0, met-nodes ts p.1, map-append seen (nodes_at 1 t) (nodes ts))
-
-unfoldable pub big_met : Met → Bool
-big_met m = is_too_long m.word || ltb level_max m.level
 
 big-seen : (ns : List Node) → any big_met (map seen ns) ≡ any big_node ns
 unfolding any big_met big_node seen

@@ -7,7 +7,9 @@ use Rattle.std.proofs.Math.Option.{none, some}
 use Rattle.texts.specs.Bytes.{Word, all, letter, digit, word_byte, allowed, fault2, is_number, value, number_of, decimal, tabbed, line_of}
 use Rattle.texts.specs.Terms.{identifier, symbol, Term, Terms, term, nil, cons, spell, brackets, closing, worded, wordeds}
 use Rattle.texts.proofs.Beneath.Tools.{never, both, pair, all_append, all_mono, any_none}
-use Rattle.texts.proofs.Beneath.Splitting.{free, ended_line, number-decimal}
+use Rattle.texts.specs.Splitting.{free}
+use Rattle.texts.specs.Bytes.{ended_line}
+use Rattle.texts.proofs.Beneath.Splitting.{number-decimal}
 use Rattle.texts.proofs.Beneath.Spelling.{identifier-bytes}
 
 -- A byte of a field.

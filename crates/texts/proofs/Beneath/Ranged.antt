@@ -15,14 +15,16 @@ use Rattle.parts.specs.Sides.{name, cell}
 use Rattle.texts.specs.Coded.{packed, codes, cells_from, second_from, new_from, rule_number, template, arity_at, unpaired}
 use Rattle.texts.proofs.Beneath.Tools.{never, both, among_in, in_among, false-any}
 use Rattle.texts.proofs.Beneath.NetMeans.{nodes-append}
-use Rattle.texts.proofs.Beneath.Linear.{words, words_in, words_all, bare, bares, line-bare, no_terms}
+use Rattle.texts.specs.Linear.{words, words_in}
+use Rattle.texts.proofs.Beneath.Linear.{words_all, bare, bares, line-bare, no_terms}
 use Rattle.texts.proofs.Beneath.Places.{index_less, keep_in, in_keep, in_different}
-use Rattle.texts.proofs.Beneath.Templates.{Few, unpaired-twos, codes-even, template-count, template-cells, tally_ext, tally_none, cell_none, right_args}
+use Rattle.texts.specs.Templates.{Few}
+use Rattle.texts.proofs.Beneath.Templates.{unpaired-twos, codes-even, template-count, template-cells, tally_ext, tally_none, cell_none, right_args}
 use Rattle.texts.proofs.Beneath.TableSound.{head-arity}
 use Rattle.texts.specs.TableTest.{all_codes, code_ok, walk, met, void, ahead, onward, numbered}
 use Rattle.texts.proofs.Beneath.SideWalk.{walk-terms, met-terms}
 use Rattle.texts.proofs.Beneath.Numbering.{numbered_all, tally-zero}
-use Rattle.texts.proofs.Beneath.RuleSound.{SoundRule}
+use Rattle.texts.specs.RuleSound.{SoundRule}
 
 walk-nil : (m : ℕ) → walk m [] [] ≡ true
 unfolding walk onward void

@@ -15,7 +15,8 @@ use Rattle.parts.specs.Sides.{Side, name, cell}
 use Rattle.model.specs.Table.{Cell}
 use Rattle.texts.specs.Coded.{symbol_of, size, code_at, codes, cells_at, cells_from}
 use Rattle.texts.proofs.Beneath.Tools.{both, pair, neither, none_of, any_append, all_append, all_left, all_right}
-use Rattle.texts.proofs.Beneath.Linear.{tally-append, words, words_in, size-words, takes-name}
+use Rattle.texts.specs.Linear.{words, words_in}
+use Rattle.texts.proofs.Beneath.Linear.{tally-append, size-words, takes-name}
 use Rattle.texts.specs.TableTest.{tally, args_all, cell_ok, ahead, walk, met}
 use Rattle.texts.proofs.Beneath.SideWalk.{met-name, met-cell, walk_induction}
 

@@ -11,7 +11,8 @@ use Rattle.texts.specs.Bytes.{all, keep, In}
 use Rattle.texts.specs.Coded.{new_from}
 use Rattle.texts.specs.TableTest.{tally, same_side, numbered}
 use Rattle.texts.proofs.Beneath.Tools.{never, both, pair}
-use Rattle.texts.proofs.Beneath.Linear.{one, tally-cons}
+use Rattle.texts.specs.Linear.{one}
+use Rattle.texts.proofs.Beneath.Linear.{tally-cons}
 
 -- New names in order, and numbered as they are met.
 pub in_order : (total : ℕ) (xs : List ℕ) (n : ℕ) → numbered total n xs ≡ true → InOrder n xs

@@ -8,7 +8,9 @@ use Rattle.texts.specs.Books.{Agent, Rule, Book, Record, is_agent, is_rule, reco
 use Rattle.texts.specs.Answers.{fine, accepted, refused, need, refuse, read_lines}
 use Rattle.texts.specs.RuleText.{Counts, header_line, ruleless, shape_of, record_of, is_too_long, big_record, big_book, fault5, fault6, fault7, fault8, fault9, fault10, shape, judged, rule_line, counted, rules_of_lines, read_rules}
 use Rattle.texts.proofs.Beneath.Tools.{both, pair, neither, all_append, cons-eq}
-use Rattle.texts.proofs.Beneath.Splitting.{free, ended_line, bytes_of, ends_of, lines-text, text-lines, fields-line, line-fields, decimal-tabs}
+use Rattle.texts.specs.Splitting.{free}
+use Rattle.texts.specs.Bytes.{ended_line}
+use Rattle.texts.proofs.Beneath.Splitting.{bytes_of, ends_of, lines-text, text-lines, fields-line, line-fields, decimal-tabs}
 use Rattle.texts.proofs.Beneath.Plain.{in_field, Plain, Plains, word-plain, symbol-plain, spells-plain, decimal-plain, line-tabs, line_bytes, line_newlines}
 use Rattle.texts.proofs.Beneath.Means.{refuse-fine, need-fine, line-ended, even-sides, even-map, some_plain, two, header-fine}
 use Rattle.texts.proofs.Beneath.Reading.{lines-accepted, after_accepted, line-accepted}

@@ -13,11 +13,7 @@ use Rattle.texts.specs.RuleText.{fault7, fault8, wrong_args, over_names, all_dif
 use Rattle.texts.specs.NetText.{net_fault7}
 use Rattle.texts.proofs.Beneath.Tools.{never, both, neither, pair, none_of, any_false, false-any, all_true, true_all, among_in, in_among}
 use Rattle.texts.specs.Conditions.{OfRule, Argued, WellNamed}
-
--- Both conditions.
-pub record SoundRule (ags : List Agent) (r : Rule) : Type 0 where
-  pub arities : Argued ags (lefts r ++ rights r)
-  pub named : WellNamed ags r
+use Rattle.texts.specs.RuleSound.{SoundRule}
 
 -- 7, of some terms.
 pub args-exact : (ags : List Agent) (ts : List Term) → (any (wrong_args ags) (nodes ts) ≡ false) ↔ Argued ags ts

@@ -7,33 +7,7 @@ use Rattle.texts.specs.Terms.{identifier, Term, Terms, term, nil, cons, spell, b
 use Rattle.texts.proofs.Beneath.Tools.{never, both, pair}
 use Rattle.texts.proofs.Beneath.Spelling.{first_word, part-cons, part_bytes, spell-term}
 use Rattle.texts.specs.Reader.{part, at_comma, at_open, at_close, on_part, part_of, whole, term_of}
-
--- Where the walk stands, with d brackets open: before a term, in an identifier, after a bracket that closes, or past a byte that no term has there.
-pub data Scan : Type 0 where
-  want : (d : ℕ) → Scan
-  word : (d : ℕ) → Scan
-  shut : (d : ℕ) → Scan
-  lost : Scan
-
-unfoldable pub after_term : ℕ → ℕ → Scan
-after_term zero b = lost
-after_term (suc d) b = cond (eqb b 44) (want (suc d)) (cond (eqb b 41) (shut d) lost)
-
-unfoldable pub next : Scan → ℕ → Scan
-next (want d) b = cond (letter b || eqb b 95) (word d) lost
-next (word d) b = cond (word_byte b) (word d) (cond (eqb b 40) (want (suc d)) (after_term d b))
-next (shut d) b = after_term d b
-next lost b = lost
-
-unfoldable pub scan : Scan → List ℕ → Scan
-scan q [] = q
-scan q (b ∷ bs) = scan (next q b) bs
-
-unfoldable pub done : Scan → Bool
-done (want d) = false
-done (word d) = eqb d 0
-done (shut d) = eqb d 0
-done lost = false
+use Rattle.texts.specs.Scan.{Scan, want, word, shut, lost, after_term, next, scan, done}
 
 -- What is accepted is read.
 -- what the rest of a field is, where the walk stands so and will be done.

@@ -11,14 +11,15 @@ use Rattle.texts.specs.RuleText.{mirrored, wire_of, within}
 use Rattle.parts.specs.Sides.{name, ◌:=◌}
 use Rattle.texts.specs.Coded.{packed, rule_number, template}
 use Rattle.texts.proofs.Beneath.Tools.{never}
-use Rattle.texts.proofs.Beneath.Linear.{words, words_in, words_all}
+use Rattle.texts.specs.Linear.{words, words_in}
+use Rattle.texts.proofs.Beneath.Linear.{words_all}
 use Rattle.texts.specs.TableTest.{turns_to}
 use Rattle.texts.proofs.Beneath.Places.{in_keep}
-use Rattle.texts.proofs.Beneath.Templates.{Few}
+use Rattle.texts.specs.Templates.{Few}
 use Rattle.texts.proofs.Beneath.Ranged.{right_name}
 use Rattle.texts.proofs.Beneath.Turning.{turned_is, equations-are}
 use Rattle.texts.proofs.Beneath.Mirror.{Arg, Wired, back_is, into_is}
-use Rattle.texts.proofs.Beneath.RuleSound.{SoundRule}
+use Rattle.texts.specs.RuleSound.{SoundRule}
 
 head_in : (t : Term) (ws : List Word) → In (head_of t) (words t ++ ws)
 unfolding head_of words

@@ -10,7 +10,8 @@ use Rattle.parts.specs.Sides.{Side, name, cell}
 use Rattle.model.specs.Table.{Cell}
 use Rattle.texts.specs.Coded.{symbol_of, code_at, codes, cells_at, cells_from}
 use Rattle.texts.proofs.Beneath.Tools.{never, both, keep_append}
-use Rattle.texts.proofs.Beneath.Linear.{words, words_in, bare, bares, tally-append, size-words, no_terms}
+use Rattle.texts.specs.Linear.{words, words_in}
+use Rattle.texts.proofs.Beneath.Linear.{bare, bares, tally-append, size-words, no_terms}
 use Rattle.texts.specs.TableTest.{tally, same_side, ahead, onward, head_is, rest, void, walk, met}
 
 -- A name is passed over.

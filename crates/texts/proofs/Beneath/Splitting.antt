@@ -6,13 +6,9 @@ use Rattle.std.proofs.Math.Option.{none, some}
 use native.Mathlib.Omega.{arith}
 use Rattle.std.proofs.Math.Dec.{eqb}
 use borrow.Author.Tests.{eqb-true, eqb-false, leb-true, ltb-true, ltb-false, lt-ltb, le-ltb, le-leb, lt-leb, ne_eqb, not-true}
-use Rattle.texts.specs.Bytes.{Word, Line, all, digit, on_line, lines, on_field, fields, text_of, tabbed, line_of, is_number, value, number_of, decimal}
+use Rattle.texts.specs.Bytes.{Word, Line, all, digit, ended_line, on_line, lines, on_field, fields, text_of, tabbed, line_of, is_number, value, number_of, decimal}
 use Rattle.texts.proofs.Beneath.Tools.{never, both, pick}
-unfoldable pub use Rattle.texts.specs.Bytes.{ended_line}
-
--- A byte that is none of the text's marks.
-unfoldable pub free : ℕ → ℕ → Bool
-free m b = not (eqb b m)
+use Rattle.texts.specs.Splitting.{free}
 
 -- Lines.
 pub lines_cons : (s rest : List ℕ) → all (free 10) s ≡ true → lines (s ++ (10 ∷ rest)) ≡ ended_line s ∷ lines rest

@@ -22,9 +22,10 @@ use Rattle.texts.specs.NetText.{big_net}
 use Rattle.texts.proofs.Beneath.NetMeans.{net-good-small}
 use Rattle.texts.proofs.Beneath.NetSound.{SoundNet, net-sound}
 use Rattle.texts.proofs.Beneath.Loads.{all_sides, ok as args_ok, load_cells, name-twice, cell-once as net-cell-once}
-use Rattle.texts.proofs.Beneath.Templates.{Few, template-cells, right_args, left_once, right_once, new_twice, cell-once}
+use Rattle.texts.specs.Templates.{Few}
+use Rattle.texts.proofs.Beneath.Templates.{template-cells, right_args, left_once, right_once, new_twice, cell-once}
 use Rattle.texts.specs.Good.{Good, GoodBook, GoodNet}
-use Rattle.texts.proofs.Beneath.RuleSound.{SoundRule}
+use Rattle.texts.specs.RuleSound.{SoundRule}
 
 pub codes-length : (ags : List Agent) (number : Word → ℕ) (ts : Terms) (m : ℕ) → length (codes ags number m ts) ≡ count ts
 unfolding codes count

@@ -7,7 +7,6 @@ use mathlib.Core.List.Memᴰ
 use mathlib.Core.List.{List, [], ◌∷◌, ◌++◌}
 use Rattle.std.proofs.Math.Dec.{eqb}
 use borrow.Author.Tests.{eqb-true, eqb-false, eq-eqb, ne_eqb, not-true}
-use Rattle.parts.specs.Limits.{arity_max}
 use Rattle.parts.specs.Sides.{Side, name, cell}
 use Rattle.texts.specs.Bytes.{Word, any, keep, same, among, times, index_of, In, Distinct}
 use Rattle.texts.specs.Terms.{Term, Terms, term, nil, cons, nodes, words_of}
@@ -17,9 +16,11 @@ use Rattle.texts.specs.Coded.{twos, packed, codes, cells_from, second_from, new_
 use Rattle.texts.specs.TableTest.{args_all, all_codes, same_side, tally}
 use Rattle.texts.proofs.Beneath.Tools.{never, false-any, among_in}
 use Rattle.texts.proofs.Beneath.Places.{at_in, not_at, not_in, index_all, index_less, distinct_left, distinct_right, distinct_apart, keep_in, in_keep, different_in, different-distinct}
-use Rattle.texts.proofs.Beneath.Linear.{words, words_in, words_all, one, tally-cons, tally-append, cell_tally, code-count, cell-count}
+use Rattle.texts.specs.Linear.{words, words_in, one}
+use Rattle.texts.proofs.Beneath.Linear.{words_all, tally-cons, tally-append, cell_tally, code-count, cell-count}
 use Rattle.texts.proofs.Beneath.NetMeans.{nodes-append}
-use Rattle.texts.proofs.Beneath.RuleSound.{SoundRule}
+use Rattle.texts.specs.RuleSound.{SoundRule}
+use Rattle.texts.specs.Templates.{Few}
 
 pub unpaired-twos : (cs : List Side) → even cs ≡ true → unpaired (twos cs) ≡ cs
 unfolding unpaired twos even
@@ -139,11 +140,6 @@ unfolding left_args names_of lefts
 left_words ags r w m h =
     in_keep (λ v. not (declared ags v)) w (words_of (nodes (r.first ∷ r.second ∷ [])))
     (rw (words_all (r.first ∷ r.second ∷ [])) (two_words r.first r.second w m)) (rw h)
-
--- The arguments of a left field fit in their places.
-pub record Few (r : Rule) : Type 0 where
-  pub first : length (args_of r.first) ≤ arity_max
-  pub second : length (args_of r.second) ≤ arity_max
 
 module _ (ags : List Agent) (r : Rule) (s : SoundRule ags r) (few : Few r) where
   abbrev xs : List Word

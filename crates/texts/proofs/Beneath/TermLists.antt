@@ -10,7 +10,7 @@ use Rattle.parts.specs.Sides.{Side, name, cell, Pair, ◌:=◌}
 use Rattle.model.specs.Table.{Cell}
 use Rattle.texts.specs.Coded.{packed, twos, unpaired}
 use Rattle.texts.proofs.Beneath.Tools.{never, both, pair, none_of, in_among, all_left, all_right, all_append, any_append}
-use Rattle.texts.proofs.Beneath.Linear.{words, words_in}
+use Rattle.texts.specs.Linear.{words, words_in}
 use Rattle.texts.specs.TableTest.{args_all, ahead, onward, rest, met}
 use Rattle.texts.proofs.Beneath.Respelt.{word}
 

@@ -19,7 +19,8 @@ use Rattle.texts.specs.Coded.{symbol_of, twos, packed, size, code_at, codes, cel
 use Rattle.texts.specs.Meaning.{tree, trees, tree_equations}
 use Rattle.texts.specs.TableTest.{tally}
 use Rattle.texts.proofs.Beneath.Tools.{both}
-use Rattle.texts.proofs.Beneath.Linear.{words, words_in, bare, bares, size-words, no_terms, tally-append, cells-term}
+use Rattle.texts.specs.Linear.{words, words_in}
+use Rattle.texts.proofs.Beneath.Linear.{bare, bares, size-words, no_terms, tally-append, cells-term}
 use Rattle.texts.proofs.Beneath.CellReading.{Held, held_first}
 
 module _ (mem : ℕ → Cell) where

@@ -12,9 +12,10 @@ use Rattle.texts.specs.RuleText.{word_at, mirror, mirrored, wire_of, same_wire}
 use Rattle.parts.specs.Sides.{name, Pair, ◌:=◌}
 use Rattle.texts.specs.Coded.{packed, code_at, codes, twos, second_from, rule_number}
 use Rattle.texts.proofs.Beneath.Places.{index_less, word_index}
-use Rattle.texts.proofs.Beneath.Templates.{Few, left_code, right_code}
+use Rattle.texts.specs.Templates.{Few}
+use Rattle.texts.proofs.Beneath.Templates.{left_code, right_code}
 use Rattle.texts.specs.TableTest.{same_side, turned, turned_side, turns_to}
-use Rattle.texts.proofs.Beneath.RuleSound.{SoundRule}
+use Rattle.texts.specs.RuleSound.{SoundRule}
 use Rattle.texts.proofs.Beneath.Mirror.{all_map, any-map, all_ext, any_ext, Arg, Wired, not_first, mirror_first, mirror-second, over, back, mirror_arg, turns}
 
 module _ (ags : List Agent) (r : Rule) (s : SoundRule ags r) (few : Few r) (even : length (args_of r.first) ≡ length (args_of r.second)) where

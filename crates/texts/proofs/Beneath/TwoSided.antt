@@ -15,7 +15,7 @@ use Rattle.texts.proofs.Beneath.Tools.{never, both, same_refl, same_eq, any-true
 use Rattle.texts.proofs.Beneath.Places.{same_not, distinct_left, distinct_right}
 use Rattle.texts.proofs.Beneath.Linear.{bare, bares, no_terms, line-bare}
 use Rattle.texts.proofs.Beneath.Templates.{right_args}
-use Rattle.texts.proofs.Beneath.RuleSound.{SoundRule}
+use Rattle.texts.specs.RuleSound.{SoundRule}
 use Rattle.texts.proofs.Beneath.Ranged.{first_arity, second-arity}
 use Rattle.texts.proofs.Beneath.Mirror.{Arg, mirror_first, mirror-second, turns, back_is, into_is}
 use Rattle.texts.proofs.Beneath.Selves.{wired, names-only}

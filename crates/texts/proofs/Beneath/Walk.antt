@@ -1,31 +1,11 @@
 -- The identifiers of a field with their levels, by one flat walk: an identifier inside k open brackets has level k + 1.
-use Rattle.std.specs.Prelude.{ℕ, suc, pred, ◌≡◌, refl, true, false, cond, List, [], ◌∷◌, ◌++◌, map, eqb}
+use Rattle.std.specs.Prelude.{ℕ, suc, ◌≡◌, refl, true, false, List, [], ◌∷◌, ◌++◌, map}
 use Rattle.std.proofs.Common.{sym, ap, ◌∙◌, append_assoc, append-nil}
 use Rattle.texts.specs.Bytes.{Word, all, letter, digit, word_byte}
 use Rattle.texts.specs.Terms.{identifier, Term, Terms, term, nil, cons, spell, brackets, closing, worded, wordeds, Node, nodes_at, nodes_in}
 use Rattle.texts.proofs.Beneath.Tools.{never, both}
 use Rattle.texts.proofs.Beneath.Spelling.{identifier-bytes}
-
-pub record Met : Type 0 where
-  pub word : Word
-  pub level : ℕ
-
--- The brackets open after a byte.
-unfoldable pub depth : ℕ → ℕ → ℕ
-depth d b = cond (eqb b 40) (suc d) (cond (eqb b 41) (pred d) d)
-
--- A word that ends with d brackets open.
-unfoldable pub met : Word → ℕ → List Met
-met [] d = []
-met (b ∷ w) d = record { word = b ∷ w; level = suc d } ∷ []
-
--- D brackets open, w begun.
-unfoldable pub walk : ℕ → Word → List ℕ → List Met
-walk d w [] = met w d
-walk d w (b ∷ s) = cond (word_byte b) (walk d (w ++ (b ∷ [])) s) (met w d ++ walk (depth d b) [] s)
-
-unfoldable pub seen : Node → Met
-seen n = record { word = n.word; level = n.level }
+use Rattle.texts.specs.Walk.{depth, met, walk, seen}
 
 -- It meets the identifiers of the term.
 -- what goes on with no word byte.

@@ -1,7 +1,7 @@
 -- `misspelt_in`: no field before the place is bad. Assumes nothing.
 use Prim.Native.Nat.{suc, ◌-◌}
 use lib.ListN.{length}
-use Rattle.texts.proofs.Beneath.Passes.{misspelt}
+use Rattle.texts.specs.Passes.{misspelt}
 use Rattle.lines.proofs.Loops.{Gone}
 use Rattle.lines.proofs.fields.misspelt_in.Given as goal
 
