@@ -1,7 +1,9 @@
 // The text of a file.
 #![tactic(auto)]
 
+ghost use Rattle.std.specs.Prelude.{take};
 ghost use Rattle.std.specs.Counts.{IsPrefixLen};
+ghost use Rattle.std.specs.Io.KnownBytes.{Consumes};
 
 use std::fs;
 use std::io::Read;
@@ -23,7 +25,8 @@ pub fn read_file<R: Files>(rt: &R, path: &[u8], text: &mut [u8]) -> usize
 
 // Reads until the text is full, the input ends or a read fails, and answers how many bytes stand at the start of the text.
 pub fn read_full<R: Read>(input: &mut R, text: &mut [u8]) -> usize
-    ensures { IsPrefixLen result text.new }
+    ensures in_bounds { IsPrefixLen result text.new }
+    ensures bytes { Consumes (R.remaining input.old) (R.remaining input.new) (take result text.new) }
 {
     let mut done = 0;
     while done < text.len() {

@@ -20,13 +20,13 @@ const SPACE: usize = 65536;
 fn spelled(rt: &impl Print, field: &[u8]) -> io::Result<()> {
     match field_tests::spelling::spelled(field) {
         Spelling::Right => print::word(rt, b"right"),
-        Spelling::Wrong(at) => print::named(rt, "wrong", at),
+        Spelling::Wrong(at) => print::named(rt, b"wrong", at),
     }
 }
 
 fn numbered(rt: &impl Print, field: &[u8]) -> io::Result<()> {
     match scan::numbers::decimal(field) {
-        Number::Value(n) => print::named(rt, "number", n),
+        Number::Value(n) => print::named(rt, b"number", n),
         Number::Nothing => print::word(rt, b"number none"),
     }
 }
@@ -34,28 +34,28 @@ fn numbered(rt: &impl Print, field: &[u8]) -> io::Result<()> {
 // One line: what every leaf says of the bytes, taken as a line and as a field.
 fn case(rt: &impl Print, name: &[u8], bytes: &[u8]) -> io::Result<()> {
     print::start(rt, name)?;
-    print::named(rt, "bytes", bytes.len())?;
-    print::named(rt, "bad", scan::bytes::first_bad(bytes))?;
-    print::named(rt, "fields", scan::cutting::field_count(bytes))?;
+    print::named(rt, b"bytes", bytes.len())?;
+    print::named(rt, b"bad", scan::bytes::first_bad(bytes))?;
+    print::named(rt, b"fields", scan::cutting::field_count(bytes))?;
     spelled(rt, bytes)?;
-    print::named(rt, "big", field_tests::sizes::first_big(bytes))?;
+    print::named(rt, b"big", field_tests::sizes::first_big(bytes))?;
     numbered(rt, bytes)?;
-    print::told(rt, "identifier", scan::words::identifier(bytes))?;
-    print::told(rt, "symbol", scan::words::symbol(bytes))?;
+    print::told(rt, b"identifier", scan::words::identifier(bytes))?;
+    print::told(rt, b"symbol", scan::words::symbol(bytes))?;
     print::end(rt)
 }
 
 // What the cutters say of a line: where it begins and ends, its fields, the second, whether the first is `agent`.
 fn cut(rt: &impl Print, line: &[u8], at: usize, end: usize) -> io::Result<()> {
     print::start(rt, b"line")?;
-    print::named(rt, "at", at)?;
-    print::named(rt, "newline", end)?;
-    print::named(rt, "fields", scan::cutting::field_count(line))?;
-    print::named(rt, "second at", scan::cutting::field_start(line, 1))?;
+    print::named(rt, b"at", at)?;
+    print::named(rt, b"newline", end)?;
+    print::named(rt, b"fields", scan::cutting::field_count(line))?;
+    print::named(rt, b"second at", scan::cutting::field_start(line, 1))?;
     print::word(rt, scan::cutting::field(line, 1))?;
     print::told(
         rt,
-        "agent",
+        b"agent",
         scan::words::same(scan::cutting::field(line, 0), b"agent"),
     )?;
     print::end(rt)
@@ -74,7 +74,7 @@ fn ended(rt: &impl Print, line: &[u8], at: usize, end: usize) -> io::Result<()> 
 // No further line, or one that is unended.
 fn last(rt: &impl Print, word: &[u8], at: usize) -> io::Result<()> {
     print::start(rt, b"line")?;
-    print::named(rt, "at", at)?;
+    print::named(rt, b"at", at)?;
     print::word(rt, word)?;
     print::end(rt)
 }

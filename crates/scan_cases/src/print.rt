@@ -10,15 +10,17 @@ pub fn word(rt: &impl Print, w: &[u8]) -> io::Result<()> {
     rt.write_all(w)
 }
 
-pub fn named(rt: &impl Print, w: &str, n: usize) -> io::Result<()> {
-    print!(rt; "\t{w} {n}")
+pub fn named(rt: &impl Print, w: &[u8], n: usize) -> io::Result<()> {
+    word(rt, w)?;
+    print!(rt; " {n}")
 }
 
-pub fn told(rt: &impl Print, w: &str, yes: bool) -> io::Result<()> {
+pub fn told(rt: &impl Print, w: &[u8], yes: bool) -> io::Result<()> {
+    word(rt, w)?;
     if yes {
-        print!(rt; "\t{w} yes")
+        print!(rt; " yes")
     } else {
-        print!(rt; "\t{w} no")
+        print!(rt; " no")
     }
 }
 
