@@ -1,13 +1,7 @@
 -- One law for each way out of the call that reads the end.
-use mathlib.Core.Path.{◌≡◌, refl, sym, ap, ap₂, ◌∙◌}
-use mathlib.Core.Bool.{Bool, true, false, not}
-use mathlib.Core.List.{List, ◌++◌}
-use mathlib.Core.Logic.{◌↔◌}
-use Prim.Native.Nat.{ℕ, zero, suc, ◌+◌, ◌<◌, ◌≤◌}
-use native.Mathlib.Omega.{arith}
-use lib.ListN.{length, drop}
+use Rattle.std.proofs.Common.{◌≡◌, refl, sym, ap, ap₂, ◌∙◌, Bool, true, false, not, List, ◌++◌, ◌↔◌, ℕ, zero, suc, ◌+◌, ◌<◌, ◌≤◌, arith, length, drop, le-leb}
 use lib.Seq.{sets, sets-eq}
-use borrow.Author.Tests.{not-true, not-false, le-leb, lt-leb}
+use borrow.Author.Tests.{not-true, not-false, lt-leb}
 use Rattle.table.specs.Layout.{agents_in}
 use Rattle.state.specs.Layout.{view}
 use Rattle.sound.specs.Lent.{under}
@@ -22,8 +16,11 @@ true_not_false : {A : Type 0} → true ≡ false → A
 true_not_false e = absurd (let z : ◌≡◌ {A = ℕ} 0 1 = cc in omega arith)
 
 module _ (w v : List ℕ) (t : Bool) (i : (t ≡ true) ↔ BothSound w v) where
-  pub both_sure : not t ≡ false → BothSound w v
+  both_sure : not t ≡ false → BothSound w v
   both_sure h = i.0 (not-false t h)
+
+  pub lent-sound : not t ≡ false → ∥ BothSound w v ∥₁
+  lent-sound h = ∣ both_sure h ∣₁
 
   pub way_unsound : (o : List ℕ) → not t ≡ true → given (number 16) o ≡ called w v o
   unfolding called

@@ -1,11 +1,7 @@
 -- One law for each way out of the printer of lines, and why each call that it makes is allowed.
-use mathlib.Core.Path.{◌≡◌, refl, sym, ap, ap₂, ◌∙◌, subst}
-use mathlib.Core.List.{List, [], ◌∷◌, ◌++◌, map}
-use Prim.Native.Nat.{ℕ, zero, suc, ◌+◌, ◌*◌, ◌-◌, ◌<◌, ◌≤◌}
-use native.Mathlib.Omega.{arith}
+use Rattle.std.proofs.Common.{◌≡◌, refl, sym, ap, ap₂, ◌∙◌, subst, List, [], ◌∷◌, ◌++◌, map, ℕ, zero, suc, ◌+◌, ◌*◌, ◌-◌, ◌<◌, ◌≤◌, arith, length, get_or, take, length-append}
 use mir.Syntax.{w16}
 use mir.Val.{Fits as FitsIn}
-use lib.ListN.{length, get_or, take, length-append}
 use lib.Seq.{sets}
 use Rattle.calculus.proofs.Beneath.Ended.{All}
 use Rattle.parts.specs.Limits.{cells_max, names_max, face_max}
@@ -29,28 +25,17 @@ use Rattle.printing.specs.Prints.{held, Prints, Stands, dear, Ready, Row, span, 
 use Rattle.printing.specs.declared.terms.Cursor.{Cursor}
 use Rattle.printing.proofs.Stores.{puts_then}
 use Rattle.printing.proofs.Pays.{spelling-short, sides_pay}
-use Rattle.printing.proofs.Ways.{stored, printed, above, span_more, span_none, span-short, narrow}
+use Rattle.printing.proofs.Ways.{stored, printed, above, span_more, span_none, span-short, narrow, sure}
 use Rattle.answer.specs.Lines.{tail_long, face_long, pair_long, tail_of, face_of, pair_of, pairs_of, First, Answers}
-
--- Bytes after bytes.
-stands-then : {a b o o₁ o₂ : List ℕ} {k p r : Cursor} → Stands a k o p o₁ → Stands b p o₁ r o₂ → Stands (a ++ b) k o r o₂
-stands-then s t = record { puts = puts_then s.puts t.puts; same = λ ns. t.same ns ∙ s.same ns }
-
-pub eq_way : (k a r : Cursor) (o o₁ o₂ : List ℕ) → Stands (101 ∷ []) k o a o₁ → Stands (113 ∷ []) a o₁ r o₂ → Stands word_eq k o r o₂
-eq_way k a r o o₁ o₂ s t = stands-then s t
-
-pub face_way : (k a b c r : Cursor) (o o₁ o₂ o₃ o₄ : List ℕ) → Stands (102 ∷ []) k o a o₁ → Stands (97 ∷ []) a o₁ b o₂
-    → Stands (99 ∷ []) b o₂ c o₃ → Stands (101 ∷ []) c o₃ r o₄ → Stands word_face k o r o₄
-face_way k a b c r o o₁ o₂ o₃ o₄ s t u x = stands-then s (stands-then t (stands-then u x))
 
 module _ (w v : List ℕ) where
   abbrev s : St
   s = view v
 
   -- The sides and the newline.
-  module _ (k : Cursor) (ns : List ℕ) (n : ℕ) (R : Ready w v k ns (tail_long n)) where
-    pub tail-ready : Ready w v k ns ((1 + name_long) * n)
-    tail-ready = record { lent = R.lent; fits = R.fits; room = omega (arith, R.room) }
+  module _ (sound : ∥ BothSound w v ∥₁) (k : Cursor) (ns : List ℕ) (n : ℕ) (R : Ready k ns (tail_long n)) where
+    pub tail-ready : Ready k ns ((1 + name_long) * n)
+    tail-ready = record { fits = R.fits; room = omega (arith, R.room) }
 
     pub tail-room : (l : List ℕ) (from : ℕ) (o o₁ ns₁ : List ℕ) (r : Cursor)
         → Prints (sides_of w v 9 9 (span l from n) k ns) k.at o r ns₁ o₁ → r.at + 1 ≤ far
@@ -60,7 +45,7 @@ module _ (w v : List ℕ) where
           R.room,
           h.place,
           span-short l from n,
-          sides_pay (agents_in w) (under w) s (spelling-short w) (narrow w v R.lent) 9 9 (span l from n) (held k ns),
+          sides_pay (agents_in w) (under w) s (spelling-short w) (narrow w v (sure sound)) 9 9 (span l from n) (held k ns),
         )
 
   pub tail_way : (k r₁ r : Cursor) (ts : List Side) (ns ns₁ o o₁ o₂ : List ℕ)
@@ -105,24 +90,22 @@ module _ (w v : List ℕ) where
   unfolding line_bytes
   line-fits h x ts l P F = sides-kept (agents_in w) (sound_table_lem h) (sound-state h) 9 9 ts l P F
 
-  after_line : (x : Word) (ts : List Side) → All (LiveSide s) ts → (k r : Cursor) (ns ns₁ o o₁ : List ℕ) (m : ℕ)
-      → Ready w v k ns (length x + tail_long (length ts) + m)
-      → Prints (line_bytes (agents_in w) (under w) s x ts (held k ns)) k.at o r ns₁ o₁ → Ready w v r ns₁ m
-  after_line x ts l k r ns ns₁ o o₁ m R h =
+  after_line : ∥ BothSound w v ∥₁ → (x : Word) (ts : List Side) → All (LiveSide s) ts → (k r : Cursor) (ns ns₁ o o₁ : List ℕ) (m : ℕ)
+      → Ready k ns (length x + tail_long (length ts) + m)
+      → Prints (line_bytes (agents_in w) (under w) s x ts (held k ns)) k.at o r ns₁ o₁ → Ready r ns₁ m
+  after_line sound x ts l k r ns ns₁ o o₁ m R h =
       record {
-        lent = R.lent;
-        fits = subst Fits (sym h.after) (line-fits R.lent x ts l (held k ns) R.fits);
-        room = omega (arith, R.room, h.place, ap (λ P. P.left) h.after, line_pays R.lent x ts (held k ns));
+        fits = subst Fits (sym h.after) (line-fits (sure sound) x ts l (held k ns) R.fits);
+        room = omega (arith, R.room, h.place, ap (λ P. P.left) h.after, line_pays (sure sound) x ts (held k ns));
       }
 
   -- The `face` line.
-  module _ (k a : Cursor) (ns o o₁ : List ℕ) (R : Ready w v k ns face_long) (t : Stands word_face k o a o₁) (n : ℕ) (e : n ≡ s.face.used) where
-    pub face-ready : Ready w v a ns (tail_long n)
+  module _ (sound : ∥ BothSound w v ∥₁) (k a : Cursor) (ns o o₁ : List ℕ) (R : Ready k ns face_long) (t : Stands word_face k o a o₁) (n : ℕ) (e : n ≡ s.face.used) where
+    pub face-ready : Ready a ns (tail_long n)
     face-ready =
         record {
-          lent = R.lent;
           fits = subst Fits (sym (t.same ns)) R.fits;
-          room = omega (arith, R.room, t.puts.place, ap (λ P. P.left) (t.same ns), e, (sound-state R.lent).sizes.faces);
+          room = omega (arith, R.room, t.puts.place, ap (λ P. P.left) (t.same ns), e, (sound-state (sure sound)).sizes.faces);
         }
 
     pub line_of_face : (r : Cursor) (ns₁ o₂ : List ℕ) → Prints (tail_of w v (span s.face.words 0 n) a ns) a.at o₁ r ns₁ o₂
@@ -135,13 +118,13 @@ module _ (w v : List ℕ) where
         all_of : span s.face.words 0 n ≡ sides s.face
         all_of = ap (λ m. map side (take m s.face.words)) e
 
-  pub face-row : (k : Cursor) (ns : List ℕ) → Ready w v k ns face_long → (n : ℕ) → n ≡ s.face.used → Row s Face 0 n
-  face-row k ns R n e =
+  pub face-row : ∥ BothSound w v ∥₁ → (n : ℕ) → n ≡ s.face.used → Row s Face 0 n
+  face-row sound n e =
       record {
-        fits = omega (arith, e, (sound-state R.lent).sizes.faces);
+        fits = omega (arith, e, (sound-state (sure sound)).sizes.faces);
         live = λ i b.
             let z : 0 + i ≡ i = omega arith in
-            subst (λ j. LiveSide s (side (get_or s.face.words j 0))) (sym z) (face-live (sound_table_lem R.lent) s (sound-state R.lent) i (omega (arith, b, e)));
+            subst (λ j. LiveSide s (side (get_or s.face.words j 0))) (sym z) (face-live (sound_table_lem (sure sound)) s (sound-state (sure sound)) i (omega (arith, b, e)));
       }
 
   -- A pair.
@@ -156,11 +139,10 @@ module _ (w v : List ℕ) where
       ∙ (ap (λ m. side (get_or l (2 * i) 0) ∷ m) (span_more l (2 * i + 1) 1 (λ e. omega (arith, e)) q₁ ∙ ap (λ m. side (get_or l (2 * i + 1) 0) ∷ m) (span_none l (2 * i + 1 + 1) 0 refl))
       ∙ ap (λ j. side (get_or l (2 * i) 0) ∷ side (get_or l j 0) ∷ []) z)
 
-  module _ (k a : Cursor) (ns o o₁ : List ℕ) (i : ℕ) (R : Ready w v k ns pair_long) (b : i < s.stuck.used) (t : Stands word_eq k o a o₁) where
-    pub pair-ready : Ready w v a ns (tail_long 2)
+  module _ (sound : ∥ BothSound w v ∥₁) (k a : Cursor) (ns o o₁ : List ℕ) (i : ℕ) (R : Ready k ns pair_long) (b : i < s.stuck.used) (t : Stands word_eq k o a o₁) where
+    pub pair-ready : Ready a ns (tail_long 2)
     pair-ready =
         record {
-          lent = R.lent;
           fits = subst Fits (sym (t.same ns)) R.fits;
           room = omega (arith, R.room, t.puts.place, ap (λ P. P.left) (t.same ns));
         }
@@ -169,22 +151,22 @@ module _ (w v : List ℕ) where
         → Prints (pair_of w v i k ns) k.at o r ns₁ o₂
     pair_line r ns₁ o₂ h =
         line_way word_eq _ k a r ns ns₁ o o₁ o₂ t
-        (subst (λ ts. Prints (tail_of w v ts a ns) a.at o₁ r ns₁ o₂) (pair_sides i R.lent b) h)
+        (subst (λ ts. Prints (tail_of w v ts a ns) a.at o₁ r ns₁ o₂) (pair_sides i (sure sound) b) h)
 
-  pub pair_row : (k : Cursor) (ns : List ℕ) (i : ℕ) → Ready w v k ns pair_long → i < s.stuck.used → Row s Stuck (2 * i) 2
-  pair_row k ns i R h =
+  pub pair_row : (i : ℕ) → ∥ BothSound w v ∥₁ → i < s.stuck.used → Row s Stuck (2 * i) 2
+  pair_row i sound h =
       record {
-        fits = omega (arith, h, (sound-state R.lent).sizes.stucks);
+        fits = omega (arith, h, (sound-state (sure sound)).sizes.stucks);
         live = go;
       }
     where
       go : (j : ℕ) → j < 2 → LiveSide s (side (get_or s.stuck.words (2 * i + j) 0))
       go zero b =
           let z : 2 * i + 0 ≡ 2 * i = omega arith in
-          subst (λ j. LiveSide s (side (get_or s.stuck.words j 0))) (sym z) (stuck-live (sound_table_lem R.lent) s (sound-state R.lent) i h).0
+          subst (λ j. LiveSide s (side (get_or s.stuck.words j 0))) (sym z) (stuck-live (sound_table_lem (sure sound)) s (sound-state (sure sound)) i h).0
       go (suc zero) b =
           let z : 2 * i + 1 ≡ 1 + 2 * i = omega arith in
-          subst (λ j. LiveSide s (side (get_or s.stuck.words j 0))) (sym z) (stuck-live (sound_table_lem R.lent) s (sound-state R.lent) i h).1
+          subst (λ j. LiveSide s (side (get_or s.stuck.words j 0))) (sym z) (stuck-live (sound_table_lem (sure sound)) s (sound-state (sure sound)) i h).1
       go (suc (suc j)) b = absurd (omega (arith, b))
 
   -- All pairs.
@@ -195,19 +177,19 @@ module _ (w v : List ℕ) where
       (sym (ap (λ n. pairs_of w v n k ns) e ∙ pairs_none (agents_in w) (under w) s (held k ns)))
       (record { place = omega arith; bytes = refl; after = refl })
 
-  module _ (k : Cursor) (ns : List ℕ) (n : ℕ) (R : Ready w v k ns (pair_long * n)) (q : n ≤ s.stuck.used) (some : ¬ (n ≡ 0)) where
-    pub first_pair : Ready w v k ns pair_long
-    first_pair = record { lent = R.lent; fits = R.fits; room = omega (arith, R.room, above n some) }
+  module _ (sound : ∥ BothSound w v ∥₁) (k : Cursor) (ns : List ℕ) (n : ℕ) (R : Ready k ns (pair_long * n)) (q : n ≤ s.stuck.used) (some : ¬ (n ≡ 0)) where
+    pub first_pair : Ready k ns pair_long
+    first_pair = record { fits = R.fits; room = omega (arith, R.room, above n some) }
 
     pub first_there : n - 1 < s.stuck.used
     first_there = omega (arith, q, above n some)
 
     module _ (a : Cursor) (ns₁ o o₁ : List ℕ) (h : Prints (pair_of w v (n - 1) k ns) k.at o a ns₁ o₁) where
-      pub rest-pairs : Ready w v a ns₁ (pair_long * (n - 1))
+      pub rest-pairs : Ready a ns₁ (pair_long * (n - 1))
       rest-pairs =
-          let l = stuck-live (sound_table_lem R.lent) s (sound-state R.lent) (n - 1) first_there in
-          after_line word_eq _ (l.0, (l.1, tt)) k a ns ns₁ o o₁ (pair_long * (n - 1))
-          (record { lent = R.lent; fits = R.fits; room = omega (arith, R.room, above n some) })
+          let l = stuck-live (sound_table_lem (sure sound)) s (sound-state (sure sound)) (n - 1) first_there in
+          after_line sound word_eq _ (l.0, (l.1, tt)) k a ns ns₁ o o₁ (pair_long * (n - 1))
+          (record { fits = R.fits; room = omega (arith, R.room, above n some) })
           h
 
       pub pairs_way : (r : Cursor) (ns₂ o₂ : List ℕ) → Prints (pairs_of w v (n - 1) a ns₁) a.at o₁ r ns₂ o₂
@@ -226,8 +208,9 @@ used-few : (l : List ℕ) → used l ≤ length l
 used-few [] = omega arith
 used-few (v ∷ l) = omega (arith, used-few l)
 
-pub cells_fit : (s : St) (n : ℕ) → Sizes s → n ≡ used s.symbols → FitsIn w16 n
-cells_fit s n h e = omega (arith, e, used-few s.symbols, h.symbols)
+pub cells_fit : (w v : List ℕ) (n : ℕ) → ∥ BothSound w v ∥₁ → n ≡ used (view v).symbols → FitsIn w16 n
+cells_fit w v n sound e =
+    omega (arith, e, used-few (view v).symbols, (sound-state (sure sound)).sizes.symbols)
 
 pub cells-few : (s : St) (n : ℕ) → Sizes s → n ≡ used s.symbols → n ≤ cells_max
 cells-few s n h e = omega (arith, e, used-few s.symbols, h.symbols)
@@ -252,36 +235,34 @@ module _ (w v : List ℕ) where
   unfolding answer_written face_written
   answer_is = refl
 
-module _ (w v : List ℕ) (L : BothSound w v) (k : Cursor) (f : First (view v) k) (ns : List ℕ) (z : ns ≡ zeros names_max) where
+module _ (w v : List ℕ) (sound : ∥ BothSound w v ∥₁) (k : Cursor) (f : First (view v) k) (ns : List ℕ) (z : ns ≡ zeros names_max) where
   begin_is : held k ns ≡ first_pen (agents_in w) (under w) (view v)
   unfolding first_pen
   begin_is =
       ap₂ (λ n m. pen n m k.left) f.next z ∙ ap (λ l. pen 0 (zeros names_max) l) f.left
 
-  all_ready : Ready w v k ns (face_long + pair_long * (view v).stuck.used)
+  all_ready : Ready k ns (face_long + pair_long * (view v).stuck.used)
   all_ready =
       record {
-        lent = L;
         fits = subst Fits (sym begin_is) (first_fits (agents_in w) (under w) (view v));
         room =
             omega (
               arith,
               f.at,
-              cells-few (view v) k.left (sound-state L).sizes f.left,
-              (sound-state L).sizes.stucks,
+              cells-few (view v) k.left (sound-state (sure sound)).sizes f.left,
+              (sound-state (sure sound)).sizes.stucks,
             );
       }
 
-  pub answer-ready : Ready w v k ns face_long
-  answer-ready = record { lent = L; fits = all_ready.fits; room = omega (arith, all_ready.room) }
+  pub answer-ready : Ready k ns face_long
+  answer-ready = record { fits = all_ready.fits; room = omega (arith, all_ready.room) }
 
   module _ (a : Cursor) (ns₁ o o₁ : List ℕ) (h : Prints (face_of w v k ns) k.at o a ns₁ o₁) (n : ℕ) (e : n ≡ (view v).stuck.used) where
-    face_left : Ready w v a ns₁ (pair_long * (view v).stuck.used)
+    face_left : Ready a ns₁ (pair_long * (view v).stuck.used)
     unfolding span
     face_left =
-        after_line w v word_face (sides (view v).face) live k a ns ns₁ o o₁ (pair_long * (view v).stuck.used)
+        after_line w v sound word_face (sides (view v).face) live k a ns ns₁ o o₁ (pair_long * (view v).stuck.used)
         (record {
-          lent = L;
           fits = all_ready.fits;
           room =
               omega (
@@ -293,13 +274,13 @@ module _ (w v : List ℕ) (L : BothSound w v) (k : Cursor) (f : First (view v) k
         h
       where
         live : All (LiveSide (view v)) (sides (view v).face)
-        live = all_taken (LiveSide (view v)) (view v).face.used (view v).face.words (face-live (sound_table_lem L) (view v) (sound-state L))
+        live = all_taken (LiveSide (view v)) (view v).face.used (view v).face.words (face-live (sound_table_lem (sure sound)) (view v) (sound-state (sure sound)))
 
         face-few : length (sides (view v).face) ≤ face_max
-        face-few = omega (arith, span-short (view v).face.words 0 (view v).face.used, (sound-state L).sizes.faces)
+        face-few = omega (arith, span-short (view v).face.words 0 (view v).face.used, (sound-state (sure sound)).sizes.faces)
 
-    pub pairs-ready : Ready w v a ns₁ (pair_long * n)
-    pairs-ready = subst (λ m. Ready w v a ns₁ (pair_long * m)) (sym e) face_left
+    pub pairs-ready : Ready a ns₁ (pair_long * n)
+    pairs-ready = subst (λ m. Ready a ns₁ (pair_long * m)) (sym e) face_left
 
     pub answer_way : (r : Cursor) (ns₂ o₂ : List ℕ) → Prints (pairs_of w v n a ns₁) a.at o₁ r ns₂ o₂ → Answers w v o r o₂
     answer_way r ns₂ o₂ g =

@@ -1,24 +1,23 @@
 -- What the call that reads the end answers, and what it leaves in the output.
-use Rattle.std.specs.Prelude.{cond, List, ◌++◌, ℕ, zero, suc, leb, length, drop}
+use Rattle.std.proofs.Common.{cond, List, ◌++◌, ℕ, zero, suc, leb, length, drop, Result, Ok, Err}
 use Rattle.model.specs.State.{St}
 use Rattle.table.specs.Layout.{agents_in}
 use Rattle.state.specs.Layout.{view}
 use Rattle.sound.specs.Lent.{under}
 use Rattle.lent.specs.Decided.{if_sound}
 use Rattle.answers.specs.Printing.{Written, answer_written}
-use Rattle.answer.specs.declared.EndAnswer.{EndAnswer}
-use Rattle.answer.specs.declared.EndAnswer.TheVariants.{Unsound, Waits, Long, Read}
+use Rattle.parts.specs.Faults.{fault_number}
+use Rattle.parts.specs.declared.faults.Fault.{Fault}
+use Rattle.answer.specs.declared.End.{End}
 
 -- Document 01's number of a refusal; or the length of the lines, the loops, the stuck pairs and the knot.
 pub data Told : Type 0 where
   number : ℕ → Told
   lines : (long loops stuck knot : ℕ) → Told
 
-abbrev pub end_told : EndAnswer → Told
-end_told Unsound = number 16
-end_told Waits = number 14
-end_told Long = number 15
-end_told (Read l n k m) = lines l n k m
+abbrev pub end_told : Result End Fault → Told
+end_told (Ok e) = lines e.length e.loops e.stuck e.knot
+end_told (Err f) = number (fault_number f)
 
 -- What is told, and the output at exit.
 pub record Called : Type 0 where

@@ -1,5 +1,5 @@
 -- What the printer of lines asks and promises.
-use Rattle.std.specs.Prelude.{◌≡◌, List, [], ◌∷◌, ◌++◌, ℕ, ◌+◌, ◌*◌, length, get_or}
+use Rattle.std.proofs.Common.{◌≡◌, List, [], ◌∷◌, ◌++◌, ℕ, ◌+◌, ◌*◌, length, get_or}
 use Rattle.std.proofs.lemmas.List.Edits.{sets}
 use Rattle.parts.specs.Limits.{face_max}
 use Rattle.parts.specs.Sides.{Side, side}

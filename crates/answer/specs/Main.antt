@@ -1,8 +1,6 @@
 -- The theorems on the call that reads the end, in one place.
-use Rattle.std.specs.Prelude.{◌≡◌, cond, List, ◌++◌, leb, eqb, length, drop}
+use Rattle.std.proofs.Common.{◌≡◌, cond, List, [], ◌∷◌, ◌++◌, leb, length, drop, get_or, pred, Result, Ok, Err, sym, ap, ap₂, ◌∙◌, arith, ℕ, zero, suc, ◌<◌}
 use Rattle.std.proofs.Math.Path.{refl}
-use Rattle.std.proofs.Common.{sym, ap, ap₂, ◌∙◌, arith}
-use Prim.Native.Nat.{ℕ, zero, suc, ◌<◌}
 use Rattle.model.specs.Sound.{meaning}
 use Rattle.model.specs.Walk.{Walk}
 use Rattle.table.specs.Layout.{agents_in}
@@ -15,26 +13,50 @@ use Rattle.answers.specs.Printer.{state_answer, answer_bytes}
 use Rattle.answers.specs.Text.{line_of_face, answer_text}
 use Rattle.answers.specs.Printing.{answer_written}
 use Rattle.answers.proofs.Main.{state-printed, bytes-printed, no_two_tonnages, same_line}
+use Rattle.parts.specs.Faults.{fault_number}
+use Rattle.parts.specs.declared.faults.Fault.{Fault}
+use Rattle.parts.specs.declared.faults.Fault.TheVariants.{LongText, BadByte, BadRecord, Misspelt, TooBig, DeclaredTwice, WrongArguments, WrongNames, PairTaken, OneSided, CountsDiffer, NoPick, NoRoom, Waits, LongAnswer, Unsound, LargeBudget}
 use Rattle.answer.specs.Called.{Told, number, lines, end_told, Called, given, fitted, ended, called}
-use Rattle.answer.specs.declared.EndAnswer.TheVariants.{Unsound, Waits, Long, Read}
-use Rattle.answer.specs.declared.EndAnswer.{EndAnswer}
+use Rattle.answer.specs.declared.End.{End}
+
+-- The refusal with a number of document 01.
+abbrev pub fault_of : ℕ → Fault
+fault_of n =
+    get_or (LongText ∷ BadByte ∷ BadRecord ∷ Misspelt ∷ TooBig ∷ DeclaredTwice ∷ WrongArguments ∷ WrongNames ∷ PairTaken ∷ OneSided ∷ CountsDiffer ∷ NoPick ∷ NoRoom ∷ Waits ∷ LongAnswer ∷ Unsound ∷ LargeBudget ∷ []) (pred n) LongText
+
+pub fault_back : (f : Fault) → fault_of (fault_number f) ≡ f
+fault_back LongText = refl
+fault_back BadByte = refl
+fault_back BadRecord = refl
+fault_back Misspelt = refl
+fault_back TooBig = refl
+fault_back DeclaredTwice = refl
+fault_back WrongArguments = refl
+fault_back WrongNames = refl
+fault_back PairTaken = refl
+fault_back OneSided = refl
+fault_back CountsDiffer = refl
+fault_back NoPick = refl
+fault_back NoRoom = refl
+fault_back Waits = refl
+fault_back LongAnswer = refl
+fault_back Unsound = refl
+fault_back LargeBudget = refl
 
 -- No two answers are told alike.
-abbrev pub answer_of : Told → EndAnswer
-answer_of (number n) = cond (eqb n 16) Unsound (cond (eqb n 14) Waits Long)
-answer_of (lines l n k m) = Read l n k m
+abbrev pub answer_of : Told → Result End Fault
+answer_of (number n) = Err (fault_of n)
+answer_of (lines l n k m) = Ok (record { length = l; loops = n; stuck = k; knot = m })
 
-pub answer_back : (g : EndAnswer) → answer_of (end_told g) ≡ g
-answer_back Unsound = refl
-answer_back Waits = refl
-answer_back Long = refl
-answer_back (Read l n k m) = refl
+pub answer_back : (g : Result End Fault) → answer_of (end_told g) ≡ g
+answer_back (Ok e) = refl
+answer_back (Err f) = ap Err (fault_back f)
 
-pub told-once : (g h : EndAnswer) → end_told g ≡ end_told h → g ≡ h
+pub told-once : (g h : Result End Fault) → end_told g ≡ end_told h → g ≡ h
 told-once g h e = sym (answer_back g) ∙ (ap answer_of e ∙ answer_back h)
 
 -- What the call promises is met by one answer and one output only.
-pub only-answer : (w v o : List ℕ) (g h : EndAnswer) (p q : List ℕ) → given (end_told g) p ≡ called w v o
+pub only-answer : (w v o : List ℕ) (g h : Result End Fault) (p q : List ℕ) → given (end_told g) p ≡ called w v o
     → given (end_told h) q ≡ called w v o → (g ≡ h) × (p ≡ q)
 only-answer w v o g h p q a b = (told-once g h (ap (λ c. c.told) (a ∙ sym b)), ap (λ c. c.out) (a ∙ sym b))
 

@@ -1,41 +1,46 @@
 // Steps, runs and answers, and what each call says.
 use crate::fields::{letter, number, word};
 use crate::orders::orders;
-use answer::{EndAnswer, read_answer};
-use machine::calls::{RunAnswer, StepAnswer};
+use answer::{End, read_answer};
+use machine::calls::{Ran, run, step};
+use machine::outcome::Stop;
 use parts::Limits;
+use parts::faults::Fault;
 use std::io;
 
-fn stepped(rt: &impl Print, a: StepAnswer) -> io::Result<()> {
+fn stepped(rt: &impl Print, a: Result<(), Fault>) -> io::Result<()> {
     match a {
-        StepAnswer::Moved => print!(rt; "\tmoved"),
-        StepAnswer::Unsound => print!(rt; "\t16"),
-        StepAnswer::NoPick => print!(rt; "\t12"),
-        StepAnswer::NoRoom => print!(rt; "\t13"),
+        Ok(()) => print!(rt; "\tmoved"),
+        Err(fault) => print!(rt; "\t{}", u8::from(fault)),
     }
 }
 
-fn ran(rt: &impl Print, a: RunAnswer) -> io::Result<()> {
+fn ran(rt: &impl Print, a: Result<Ran, Fault>) -> io::Result<()> {
     match a {
-        RunAnswer::Ended(n) => print!(rt; "\tended {n}"),
-        RunAnswer::Paused(n) => print!(rt; "\tpaused {n}"),
-        RunAnswer::NoRoom(n) => print!(rt; "\tnoroom {n}"),
-        RunAnswer::Unsound => print!(rt; "\t16"),
-        RunAnswer::TooMuch => print!(rt; "\t17"),
+        Ok(Ran { stop, made }) => stopped(rt, stop, made),
+        Err(fault) => print!(rt; "\t{}", u8::from(fault)),
     }
 }
 
-fn given(rt: &impl Print, a: EndAnswer) -> io::Result<()> {
+fn stopped(rt: &impl Print, stop: Stop, made: u32) -> io::Result<()> {
+    match stop {
+        Stop::Ended => print!(rt; "\tended {made}"),
+        Stop::Paused => print!(rt; "\tpaused {made}"),
+        Stop::NoRoom => print!(rt; "\tnoroom {made}"),
+    }
+}
+
+fn given(rt: &impl Print, a: Result<End, Fault>) -> io::Result<()> {
     match a {
-        EndAnswer::Unsound => print!(rt; "16"),
-        EndAnswer::Waits => print!(rt; "14"),
-        EndAnswer::Long => print!(rt; "15"),
-        EndAnswer::Read {
-            length,
-            loops,
-            stuck,
-            knot,
-        } => print!(rt; "read {length} {loops} {stuck} {knot}"),
+        Ok(
+            End {
+                length,
+                loops,
+                stuck,
+                knot,
+            },
+        ) => print!(rt; "read {length} {loops} {stuck} {knot}"),
+        Err(fault) => print!(rt; "{}", u8::from(fault)),
     }
 }
 
@@ -52,26 +57,6 @@ fn answered(
     println!(rt)
 }
 
-// `step` and a pick.
-fn step(
-    rt: &impl Print,
-    line: &[u8],
-    table: &[u8; Limits::TABLE],
-    state: &mut [u16; Limits::STATE],
-) -> io::Result<()> {
-    stepped(rt, machine::calls::step(table, state, word(line, 1)))
-}
-
-// `run` and a budget.
-fn run(
-    rt: &impl Print,
-    line: &[u8],
-    table: &[u8; Limits::TABLE],
-    state: &mut [u16; Limits::STATE],
-) -> io::Result<()> {
-    ran(rt, machine::calls::run(table, state, number(line, 1)))
-}
-
 // `answer` and the length of an output, which is full of one byte before.
 fn answer(
     rt: &impl Print,
@@ -80,10 +65,11 @@ fn answer(
     state: &[u16; Limits::STATE],
 ) -> io::Result<()> {
     let mut bytes = [b'.'; 64];
-    let n = (word(line, 1) as usize).min(bytes.len());
+    let n = usize::from(word(line, 1)).min(bytes.len());
     answered(rt, table, state, &mut bytes[..n])
 }
 
+// `step` and a pick, `run` and a budget, or another call.
 pub fn call(
     rt: &impl Print,
     line: &[u8],
@@ -91,8 +77,8 @@ pub fn call(
     state: &mut [u16; Limits::STATE],
 ) -> io::Result<()> {
     match letter(line) {
-        b's' => step(rt, line, table, state),
-        b'r' => run(rt, line, table, state),
+        b's' => stepped(rt, step(table, state, word(line, 1))),
+        b'r' => ran(rt, run(table, state, number(line, 1))),
         b'a' => answer(rt, line, table, state),
         _ => orders(rt, line, table, state),
     }

@@ -3,32 +3,19 @@ use scan::cutting::field;
 
 // The first letter of a field or a line; 0 where there is none.
 pub fn letter(field: &[u8]) -> u8 {
-    if field.len() == 0 {
-        return 0;
-    }
-    field[0]
+    field.first().copied().unwrap_or(0)
 }
 
 fn after_digit(v: u32, b: u8) -> u32 {
-    if b < b'0' {
-        return v;
+    match b {
+        b'0'..=b'9' if v < 100000000 => 10 * v + u32::from(b - b'0'),
+        _ => v,
     }
-    if b'9' < b {
-        return v;
-    }
-    if 100000000 <= v {
-        return v;
-    }
-    10 * v + (b - b'0') as u32
 }
 
 // The number that the digits of a field make, whatever stands between them.
 fn digits(field: &[u8]) -> u32 {
-    let mut v: u32 = 0;
-    for b in field {
-        v = after_digit(v, *b);
-    }
-    v
+    field.iter().fold(0, |v, b| after_digit(v, *b))
 }
 
 // The code of a side; a number that is none as it is.
@@ -45,10 +32,7 @@ fn code(kind: u8, n: u32) -> u32 {
 
 // The second letter of a field; 0 where there is none.
 fn second(field: &[u8]) -> u8 {
-    if field.len() < 2 {
-        return 0;
-    }
-    field[1]
+    field.get(1).copied().unwrap_or(0)
 }
 
 // What a field says: `x3` and `c3` are the codes of name 3 and of cell 3, `=x3` and `=c3` the words of names joined and tied
@@ -67,19 +51,11 @@ pub fn number(line: &[u8], k: usize) -> u32 {
 
 // The same where it fits a word, and a byte; 0 where it does not.
 pub fn word(line: &[u8], k: usize) -> u16 {
-    let v = number(line, k);
-    if v <= 65535 {
-        return v as u16;
-    }
-    0
+    u16::try_from(number(line, k)).unwrap_or(0)
 }
 
 pub fn byte(line: &[u8], k: usize) -> u8 {
-    let v = number(line, k);
-    if v <= 255 {
-        return v as u8;
-    }
-    0
+    u8::try_from(number(line, k)).unwrap_or(0)
 }
 
 pub fn count(line: &[u8], k: usize) -> usize {

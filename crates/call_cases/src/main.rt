@@ -4,10 +4,8 @@
 
 use files::read_file;
 use parts::Limits;
-use scan::cutting::find;
 use std::io;
 use std::rt::Files;
-use terms::words::part;
 
 mod fields; // fields.rt: what the fields of a line say
 mod making; // making.rt: tables and states
@@ -16,6 +14,7 @@ mod calling; // calling.rt: steps, runs and answers
 mod orders; // orders.rt: the same wires in every order of picks
 mod showing; // showing.rt: a state on one line
 
+// A line is told by a byte of a script: a match on it is plainer than a table of closures.
 // What one line says. A line with any other letter says nothing.
 fn obey<R: Files + Print>(
     rt: &R,
@@ -33,35 +32,17 @@ fn obey<R: Files + Print>(
     Ok(())
 }
 
-// Plays the line that begins at a place, and answers where the next one begins.
-fn play_line<R: Files + Print>(
-    rt: &R,
-    script: &[u8],
-    at: usize,
-    table: &mut [u8; Limits::TABLE],
-    state: &mut [u16; Limits::STATE],
-) -> io::Result<usize> {
-    if Limits::TEXT <= at {
-        return Ok(at);
-    }
-    let n = find(part(script, at, Limits::TEXT), b'\n');
-    if Limits::TEXT <= n {
-        return Ok(Limits::TEXT);
-    }
-    obey(rt, part(script, at, n), table, state)?;
-    Ok(at + n + 1)
-}
-
-// A script has no more lines than bytes.
+// A line that fills the whole script is not played.
 fn play_lines<R: Files + Print>(
     rt: &R,
     script: &[u8],
     table: &mut [u8; Limits::TABLE],
     state: &mut [u16; Limits::STATE],
 ) -> io::Result<()> {
-    let mut at: usize = 0;
-    for _ in 0..script.len() {
-        at = play_line(rt, script, at, table, state)?;
+    for line in script.split(|b| *b == b'\n') {
+        if line.len() < Limits::TEXT {
+            obey(rt, line, table, state)?;
+        }
     }
     Ok(())
 }
@@ -72,7 +53,7 @@ fn play<R: Files + Print>(rt: &R, name: &[u8]) -> io::Result<()> {
     let mut state = state::empty();
     let mut script = [0u8; Limits::TEXT];
     let n = read_file(rt, name, &mut script);
-    play_lines(rt, part(&script, 0, n), &mut table, &mut state)
+    play_lines(rt, &script[..n], &mut table, &mut state)
 }
 
 fn main(rt: HostRuntime) -> io::Result<()> {

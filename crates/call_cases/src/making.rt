@@ -6,22 +6,21 @@ use scan::cutting::{field, field_count};
 use state::Layout as Words;
 use std::rt::Files;
 use table::Layout as Bytes;
-use terms::words::part;
 
-// `table` and the file of a rule text.
+// `table` and the file of a rule text. One that is refused leaves the table as it is.
 fn take_rules(text: &[u8], table: &mut [u8; Limits::TABLE]) {
-    rules::read_rules(text, table);
+    let _ = rules::read_rules(text, table);
 }
 
 fn read_table(rt: &impl Files, line: &[u8], table: &mut [u8; Limits::TABLE]) {
     let mut text = [0u8; Limits::TEXT];
     let n = read_file(rt, field(line, 1), &mut text);
-    take_rules(part(&text, 0, n), table);
+    take_rules(&text[..n], table);
 }
 
-// `net` and the file of a net text.
+// `net` and the file of a net text. One that is refused leaves the state as it is.
 fn take_net(text: &[u8], table: &[u8; Limits::TABLE], state: &mut [u16; Limits::STATE]) {
-    nets::read_net(text, table, state);
+    let _ = nets::read_net(text, table, state);
 }
 
 fn read_state(
@@ -32,13 +31,13 @@ fn read_state(
 ) {
     let mut text = [0u8; Limits::TEXT];
     let n = read_file(rt, field(line, 1), &mut text);
-    take_net(part(&text, 0, n), table, state);
+    take_net(&text[..n], table, state);
 }
 
 // Where a row of a part of the state begins: the numbers used, the symbols of cells and their arguments, names, equations
 // that wait and stuck pairs, and the interface.
 fn words_at(kind: u8, row: u16) -> usize {
-    let r = row as usize;
+    let r = usize::from(row);
     match kind {
         b'u' => r,
         b'c' => Words::SYMBOLS_AT + r,
@@ -53,7 +52,7 @@ fn words_at(kind: u8, row: u16) -> usize {
 
 // The same for the table: the numbers used, agents, pairs of symbols, rules, and in a rule its equations and its cells.
 fn bytes_at(kind: u8, row: u16) -> usize {
-    let r = row as usize;
+    let r = usize::from(row);
     match kind {
         b'u' => r,
         b'a' => Bytes::AGENTS_AT + Limits::AGENT * r,
@@ -66,36 +65,26 @@ fn bytes_at(kind: u8, row: u16) -> usize {
 }
 
 fn put_word(state: &mut [u16; Limits::STATE], row: usize, i: usize, v: u16) {
-    if row < Limits::STATE {
-        if i < Limits::STATE {
-            let at = row + i;
-            if at < Limits::STATE {
-                state[at] = v;
-            }
-        }
+    if row < Limits::STATE && i < Limits::STATE - row {
+        state[row + i] = v;
     }
 }
 
 // `byte`, a part, a row, a place in it, and what is stored there.
 pub fn put_byte(line: &[u8], table: &mut [u8; Limits::TABLE]) {
     let row = bytes_at(letter(field(line, 1)), word(line, 2));
-    let i = word(line, 3) as usize;
-    if row < Limits::TABLE {
-        let at = row + i;
-        if at < Limits::TABLE {
-            table[at] = byte(line, 4);
-        }
+    let i = usize::from(word(line, 3));
+    if row < Limits::TABLE && i < Limits::TABLE - row {
+        table[row + i] = byte(line, 4);
     }
 }
 
 // Field k of a line that stores words.
 fn put_field(line: &[u8], k: usize, state: &mut [u16; Limits::STATE]) {
     let row = words_at(letter(field(line, 1)), word(line, 2));
-    let i = word(line, 3) as usize;
-    if 4 <= k {
-        if k < Limits::TEXT {
-            put_word(state, row, i + (k - 4), word(line, k));
-        }
+    let i = usize::from(word(line, 3));
+    if 4 <= k && k < Limits::TEXT {
+        put_word(state, row, i + (k - 4), word(line, k));
     }
 }
 
@@ -111,16 +100,14 @@ pub fn put_first(line: &[u8], state: &mut [u16; Limits::STATE]) {
     put_field(line, 4, state);
 }
 
+// Their sum, where it fits a word; else the first.
 fn plus(a: u16, b: u16) -> u16 {
-    if b <= 65535 - a {
-        return a + b;
-    }
-    a
+    a.checked_add(b).unwrap_or(a)
 }
 
 fn put_row(line: &[u8], k: u16, v: u16, state: &mut [u16; Limits::STATE]) {
     let row = words_at(letter(field(line, 1)), plus(word(line, 2), k));
-    put_word(state, row, word(line, 3) as usize, v);
+    put_word(state, row, usize::from(word(line, 3)), v);
 }
 
 // `fill`, a part, its first row, a place in it, how many rows, what is stored in the first, and how much more in each next one.

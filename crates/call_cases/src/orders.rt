@@ -1,8 +1,8 @@
 // The same wires in every order of picks.
-ghost use Rattle.std.specs.Prelude.{◌<◌, ◌≤◌};
+ghost use Rattle.std.specs.Prelude.{◌<◌};
 
 use crate::fields::{count, number, word};
-use machine::calls::{StepAnswer, step};
+use machine::calls::step;
 use parts::{Limits, NameNo};
 use state::{Layout, Part, Pile};
 use std::io;
@@ -12,9 +12,7 @@ fn turn(state: &mut [u16; Limits::STATE], k: usize)
     requires { k < 8 }
 {
     let at = Layout::WAITING_AT + 2 * k;
-    let left = state[at];
-    state[at] = state[at + 1];
-    state[at + 1] = left;
+    state.swap(at, at + 1);
 }
 
 // Bit k of a mask says whether equation k is written with its sides exchanged.
@@ -25,20 +23,9 @@ fn turned(first: &[u16; Limits::STATE], mask: u16) -> [u16; Limits::STATE] {
         if m % 2 == 1 {
             turn(&mut s, k);
         }
-        m = m / 2;
+        m /= 2;
     }
     s
-}
-
-fn is_moved(a: StepAnswer) -> bool {
-    match a {
-        StepAnswer::Moved => true,
-        StepAnswer::Unsound | StepAnswer::NoPick | StepAnswer::NoRoom => false,
-    }
-}
-
-fn moves(table: &[u8; Limits::TABLE], state: &mut [u16; Limits::STATE], pick: u16) -> bool {
-    is_moved(step(table, state, pick))
 }
 
 // Makes the picks that a number stands for, at most eight of them, and answers whether nothing waits then.
@@ -49,44 +36,31 @@ fn walk(table: &[u8; Limits::TABLE], state: &mut [u16; Limits::STATE], order: u1
         if w == 0 {
             return true;
         }
-        if !moves(table, state, q % w) {
+        if step(table, state, q % w).is_err() {
             return false;
         }
-        q = q / w;
+        q /= w;
     }
     false
 }
 
 // Whether a state has so many loops, names and stuck pairs, and its first name such a word.
 fn left_over(line: &[u8], state: &[u16; Limits::STATE]) -> bool {
-    if state::loops(state) != number(line, 3) {
-        return false;
-    }
-    if state::in_use(state, Part::Names) != count(line, 4) {
-        return false;
-    }
-    if state::count(state, Pile::Stucks) != word(line, 5) {
-        return false;
-    }
-    state::name_word(state, NameNo(0)) == word(line, 6)
+    state::loops(state) == number(line, 3)
+        && state::in_use(state, Part::Names) == count(line, 4)
+        && state::count(state, Pile::Stucks) == word(line, 5)
+        && state::name_word(state, NameNo(0)) == word(line, 6)
 }
 
-// One if an order leaves what it should, none else.
+// Whether an order leaves what it should.
 fn one_order(
     line: &[u8],
     table: &[u8; Limits::TABLE],
     first: &[u16; Limits::STATE],
     order: u16,
-) -> u16
-    ensures { result ≤ 1 }
-{
+) -> bool {
     let mut s = turned(first, word(line, 1));
-    if walk(table, &mut s, order) {
-        if left_over(line, &s) {
-            return 1;
-        }
-    }
-    0
+    walk(table, &mut s, order) && left_over(line, &s)
 }
 
 // `orders`, a mask, a number of orders, and what each should leave: of that many orders, how many do.
@@ -96,9 +70,8 @@ pub fn orders(
     table: &[u8; Limits::TABLE],
     first: &[u16; Limits::STATE],
 ) -> io::Result<()> {
-    let mut good: u16 = 0;
-    for order in 0..word(line, 2) {
-        good += one_order(line, table, first, order);
-    }
+    let good = (0..word(line, 2))
+        .filter(|order| one_order(line, table, first, *order))
+        .count();
     print!(rt; " {good}")
 }

@@ -3,7 +3,7 @@ ghost use Rattle.std.specs.Prelude.{◌<◌};
 ghost use Rattle.parts.specs.Limits.{cells_max, names_max};
 
 use crate::fields::letter;
-use parts::{CellNo, Limits, NameNo, Side, decode};
+use parts::{CellNo, Limits, NameNo, Side};
 use scan::cutting::field_start;
 use state::{Layout, Part, Pile};
 use std::io;
@@ -11,7 +11,7 @@ use terms::words::part;
 
 // A side by its code: `x` and a name's number, or `c` and a cell's.
 fn side(rt: &impl Print, code: u16) -> io::Result<()> {
-    match decode(code) {
+    match Side::from(code) {
         Side::Name(NameNo(n)) => print!(rt; " x{n}"),
         Side::Cell(CellNo(n)) => print!(rt; " c{n}"),
     }
@@ -19,24 +19,23 @@ fn side(rt: &impl Print, code: u16) -> io::Result<()> {
 
 // The word at a place of a part, or 0 past the last.
 fn word(state: &[u16; Limits::STATE], from: usize, i: usize) -> u16 {
-    if from < Limits::STATE {
-        if i < Limits::STATE - from {
-            return state[from + i];
-        }
+    if from < Limits::STATE && i < Limits::STATE - from {
+        state[from + i]
+    } else {
+        0
     }
-    0
 }
 
 // Sides, the first first.
 fn sides(rt: &impl Print, state: &[u16; Limits::STATE], from: usize, n: u16) -> io::Result<()> {
     for i in 0..n {
-        side(rt, word(state, from, i as usize))?;
+        side(rt, word(state, from, usize::from(i)))?;
     }
     Ok(())
 }
 
 fn pair_at(rt: &impl Print, state: &[u16; Limits::STATE], from: usize, k: u16) -> io::Result<()> {
-    let i = 2 * (k as usize);
+    let i = 2 * usize::from(k);
     side(rt, word(state, from, i))?;
     side(rt, word(state, from, i + 1))?;
     print!(rt; ",")
@@ -61,17 +60,10 @@ fn cell(rt: &impl Print, state: &[u16; Limits::STATE], c: u16) -> io::Result<()>
         sides(
             rt,
             state,
-            Layout::ARGUMENTS_AT + Limits::ARITY * (c as usize),
+            Layout::ARGUMENTS_AT + Limits::ARITY * usize::from(c),
             4,
         )?;
         print!(rt; ",")?;
-    }
-    Ok(())
-}
-
-fn cells(rt: &impl Print, state: &[u16; Limits::STATE]) -> io::Result<()> {
-    for c in 0..Limits::CELLS {
-        cell(rt, state, c as u16)?;
     }
     Ok(())
 }
@@ -88,13 +80,6 @@ fn name(rt: &impl Print, state: &[u16; Limits::STATE], x: u16) -> io::Result<()>
             side(rt, w - 2)?;
         }
         print!(rt; ",")?;
-    }
-    Ok(())
-}
-
-fn names(rt: &impl Print, state: &[u16; Limits::STATE]) -> io::Result<()> {
-    for x in 0..Limits::NAMES {
-        name(rt, state, x as u16)?;
     }
     Ok(())
 }
@@ -124,9 +109,13 @@ fn view(rt: &impl Print, state: &[u16; Limits::STATE]) -> io::Result<()> {
     lists(rt, state)?;
     let loops = state::loops(state);
     print!(rt; "\tloops {loops}\tcells")?;
-    cells(rt, state)?;
+    for c in 0..Limits::CELLS {
+        cell(rt, state, c as u16)?;
+    }
     print!(rt; "\tnames")?;
-    names(rt, state)?;
+    for x in 0..Limits::NAMES {
+        name(rt, state, x as u16)?;
+    }
     println!(rt)
 }
 

@@ -2,20 +2,15 @@
 // is held to the expected one.
 #![tactic(auto)]
 
-ghost use Rattle.std.specs.Prelude.{◌≤◌, IfOk, length};
 ghost use Rattle.std.specs.Counts.{IsPrefixLen};
-ghost use Rattle.parts.specs.Limits.{text_max};
 
 use evaluation::evaluate;
 use evaluation::sizes::Output;
 use files::read_file;
 use parts::Limits;
-use report::fields::put_bytes;
-use scan::cutting::{NextLine, next_line};
-use scan::words::same;
+use printing::leaves::put_bytes;
 use std::io;
 use std::rt::Files;
-use terms::words::part;
 
 mod readers; // readers.rt: what the two readers answer
 
@@ -33,19 +28,12 @@ fn read_part<R: Files>(rt: &R, name: &[u8], ending: &[u8], text: &mut [u8]) -> u
     ensures { IsPrefixLen result text.new }
 {
     let mut path = [0u8; PATH];
-    if NAME < name.len() {
-        return 0;
-    }
-    if 16 < ending.len() {
+    if NAME < name.len() || 16 < ending.len() {
         return 0;
     }
     let a = put_bytes(&mut path, 0, name);
     let b = put_bytes(&mut path, a, ending);
-    read_file(rt, part(&path, 0, b), text)
-}
-
-fn is_printed(out: &[u8; Output::SIZE], k: usize, expected: &[u8]) -> bool {
-    same(part(out, 0, k), expected)
+    read_file(rt, &path[..b], text)
 }
 
 // The answers to a case, and whether its output is as expected. An output is never empty, so a case without an expected one differs.
@@ -59,51 +47,37 @@ fn agrees<R: Files + Print>(rt: &R, name: &[u8]) -> io::Result<bool> {
     readers::read_both(rt, &rules[..r], &net[..n])?;
     let mut out = [0u8; Output::SIZE];
     let k = evaluate(&rules[..r], &net[..n], &mut out);
-    Ok(is_printed(&out, k, &expected[..e]))
+    Ok(out[..k] == expected[..e])
 }
 
-// One case: 1 if it differs.
-fn try_case<R: Files + Print>(rt: &R, name: &[u8]) -> io::Result<usize>
-    ensures { IfOk result (λ n. n ≤ 1) }
-{
+// One case, and whether it differs.
+fn try_case<R: Files + Print>(rt: &R, name: &[u8]) -> io::Result<bool> {
     rt.write_all(name)?;
-    if agrees(rt, name)? {
+    let differs = !agrees(rt, name)?;
+    if differs {
+        println!(rt; ", differs")?;
+    } else {
         println!(rt; ", as expected")?;
-        return Ok(0);
     }
-    println!(rt; ", differs")?;
-    Ok(1)
+    Ok(differs)
 }
 
-fn try_all<R: Files + Print>(rt: &R, index: &[u8]) -> io::Result<()>
-    requires { length index.now ≤ text_max }
-{
-    let mut at: usize = 0;
-    let mut cases: usize = 0;
+// Each newline ends the name of a case.
+fn try_all<R: Files + Print>(rt: &R, index: &[u8]) -> io::Result<()> {
+    let cases = index.iter().filter(|b| **b == b'\n').count();
     let mut differ: usize = 0;
-    loop {
-        match next_line(index, at) {
-            NextLine::Nothing => return println!(rt; "{cases} cases, {differ} differ"),
-            NextLine::Unended => return println!(rt; "index unended"),
-            NextLine::Ended(end) => {
-                differ += try_case(rt, part(index, at, end - at))?;
-                cases += 1;
-                at = end + 1;
-            }
-        }
+    for name in index.split(|b| *b == b'\n').take(cases) {
+        differ = differ.saturating_add(usize::from(try_case(rt, name)?));
     }
-}
-
-fn try_index<R: Files + Print>(rt: &R, index: &[u8]) -> io::Result<()> {
-    if index.len() <= Limits::TEXT {
-        try_all(rt, index)?;
+    match index.last() {
+        None | Some(b'\n') => println!(rt; "{cases} cases, {differ} differ"),
+        Some(_) => println!(rt; "index unended"),
     }
-    Ok(())
 }
 
 fn main(rt: HostRuntime) -> io::Result<()> {
     let mut index = [0u8; Limits::TEXT];
     let n = read_file(&rt, b"index.txt", &mut index);
-    try_index(&rt, &index[..n])?;
+    try_all(&rt, &index[..n])?;
     readers::read_damaged(&rt)
 }

@@ -1,10 +1,8 @@
 // What the two readers answer to the texts of a case. The table and the state lent to them are full of what means nothing. After a
 // refusal they must hold it still; after an acceptance their counts are printed, and whether they are sound.
 use crate::LOOKED_FOR;
-use nets::NetAnswer;
 use parts::Limits;
-use rules::RulesAnswer;
-use scan::words::same;
+use parts::faults::Refusal;
 use state::{Part, Pile};
 use std::io;
 
@@ -12,19 +10,9 @@ const BYTE: u8 = 167;
 
 const WORD: u16 = 40001;
 
-// Whether a table and a state are as they were lent.
-fn table_kept(table: &[u8; Limits::TABLE]) -> bool {
-    let before = [BYTE; Limits::TABLE];
-    same(table, &before)
-}
-
-fn state_kept(state: &[u16; Limits::STATE]) -> bool {
-    for word in state {
-        if *word != WORD {
-            return false;
-        }
-    }
-    true
+// Whether a table or a state is as it was lent: each place of it holds the same.
+fn kept<T: PartialEq + Copy>(lent: &[T], full: T) -> bool {
+    lent.iter().all(|x| *x == full)
 }
 
 fn sound(rt: &impl Print, is_sound: bool) -> io::Result<()> {
@@ -34,8 +22,8 @@ fn sound(rt: &impl Print, is_sound: bool) -> io::Result<()> {
     print!(rt; " not sound")
 }
 
-fn refused(rt: &impl Print, number: u8, line: usize, kept: bool) -> io::Result<()> {
-    print!(rt; " refused {number} {line}")?;
+fn refused(rt: &impl Print, r: Refusal, kept: bool) -> io::Result<()> {
+    print!(rt; " refused {} {}", u8::from(r.fault), r.line)?;
     if kept {
         return print!(rt; " kept");
     }
@@ -66,13 +54,13 @@ fn net_accepted(
 
 fn net_told(
     rt: &impl Print,
-    answer: NetAnswer,
+    answer: Result<(), Refusal>,
     table: &[u8; Limits::TABLE],
     state: &[u16; Limits::STATE],
 ) -> io::Result<()> {
     match answer {
-        NetAnswer::Accepted => net_accepted(rt, table, state),
-        NetAnswer::Refused { number, line } => refused(rt, number, line, state_kept(state)),
+        Ok(()) => net_accepted(rt, table, state),
+        Err(r) => refused(rt, r, kept(state, WORD)),
     }
 }
 
@@ -85,16 +73,16 @@ fn read_net(rt: &impl Print, text: &[u8], table: &[u8; Limits::TABLE]) -> io::Re
 
 fn rules_told(
     rt: &impl Print,
-    answer: RulesAnswer,
+    answer: Result<(), Refusal>,
     table: &[u8; Limits::TABLE],
     net: &[u8],
 ) -> io::Result<()> {
     match answer {
-        RulesAnswer::Accepted => {
+        Ok(()) => {
             rules_accepted(rt, table)?;
             read_net(rt, net, table)
         }
-        RulesAnswer::Refused { number, line } => refused(rt, number, line, table_kept(table)),
+        Err(r) => refused(rt, r, kept(table, BYTE)),
     }
 }
 

@@ -1,13 +1,7 @@
 -- One law for each way through the walk from one side on, and from a row of words on.
-use mathlib.Core.Path.{◌≡◌, refl, ap, ap₂, sym, subst, ◌∙◌}
-use mathlib.Core.Bool.{Bool, true, false}
-use mathlib.Core.List.{List, [], ◌∷◌, map}
-use Prim.Native.Nat.{ℕ, suc, ◌+◌, ◌*◌, ◌-◌, ◌<◌, ◌≤◌}
-use native.Mathlib.Omega.{arith}
-use lib.Dec.{ltb}
-use lib.ListN.{length, get_or, set, take, drop, length-set, get_or-eq_default}
-use lib.Seq.{drop-cons}
-use borrow.Author.Tests.{ltb-true, ltb-false}
+use Rattle.std.proofs.Common.{◌≡◌, refl, ap, ap₂, sym, subst, ◌∙◌, Bool, true, false, List, [], ◌∷◌, map, ℕ, suc, ◌+◌, ◌*◌, ◌-◌, ◌<◌, ◌≤◌, arith, ltb, length, get_or, set, take, drop, length-set, drop-cons, ltb-true, ltb-false}
+use Rattle.std.proofs.Math.ListN.{get_or-eq_default}
+use Rattle.std.specs.Prelude.{Option, Some, None}
 use Rattle.parts.specs.Limits.{arity_max, cells_max, names_max}
 use Rattle.parts.specs.SegmentLaws.{seg-length}
 use Rattle.parts.specs.Sides.{Side, name, cell, side}
@@ -32,22 +26,23 @@ unmet-set (ℕ.suc v ∷ l) ℕ.zero h e = absurd (omega arith)
 unmet-set (ℕ.zero ∷ l) (ℕ.suc i) h e = ap suc (unmet-set l i (omega arith) e)
 unmet-set (ℕ.suc v ∷ l) (ℕ.suc i) h e = unmet-set l i (omega arith) e
 
--- Entering a cell.
-pub enter_beyond : (w seen : List ℕ) (c : ℕ) → cells_max ≤ c → Entered (view w).symbols c seen 0 seen
+-- Entering a cell, whose number is i as an index.
+pub enter_beyond : (w seen : List ℕ) (c : ℕ) → cells_max ≤ c → Entered (view w).symbols c seen None seen
 unfolding view
 enter_beyond w seen c h =
     let b : length (view w).symbols ≤ c = omega (arith, seg-length symbols_at cells_max w) in
     barred (λ mem todo. unused (get_or-eq_default (view w).symbols 0 b))
 
-pub enter_again : (ss seen : List ℕ) (c : ℕ) → ¬ (get_or seen c 0 ≡ 0) → Entered ss c seen 0 seen
-enter_again ss seen c h = barred (λ mem todo. again h)
+module _ (ss seen : List ℕ) (c i : ℕ) (e : i ≡ c) where
+  pub enter_again : ¬ (get_or seen i 0 ≡ 0) → Entered ss c seen None seen
+  enter_again h = barred (λ mem todo. again (rw e at h))
 
-pub enter_unused : (ss seen : List ℕ) (c word : ℕ) → word ≡ get_or ss c 0 → word ≡ 0 → Entered ss c seen 0 seen
-enter_unused ss seen c word e z = barred (λ mem todo. unused (sym e ∙ z))
+  pub enter_unused : (word : ℕ) → word ≡ get_or ss i 0 → word ≡ 0 → Entered ss c seen None seen
+  enter_unused word f z = barred (λ mem todo. unused (rw e at (sym f ∙ z)))
 
-pub enter_new : (ss seen : List ℕ) (c word : ℕ) → length seen ≡ cells_max → c < cells_max → get_or seen c 0 ≡ 0 → word ≡ get_or ss c 0 → ¬ (word ≡ 0)
-    → Entered ss c seen word (set seen c 1)
-enter_new ss seen c word l h n e z = entered z e n (omega arith)
+  pub enter_new : (word : ℕ) → length seen ≡ cells_max → i < cells_max → get_or seen i 0 ≡ 0 → word ≡ get_or ss i 0 → ¬ (word ≡ 0)
+      → Entered ss c seen (Some word) (set seen i 1)
+  enter_new word l h n f z = rw e (entered z (rw e at f) (rw e at n) (omega arith))
 
 -- A side by its number.
 pub side-name : (a : Side) (x : NameNo) → Name x ≡ typed a → name x.0 ≡ a
@@ -71,17 +66,17 @@ module _ (mem : ℕ → Model.Cell) (ss seen : List ℕ) where
       go false e =
           record { goes = λ todo r k. rw k (beyond {x = x} {todo = todo} {seen = seen} (ltb-false x names_max e)); size = refl; falls = omega arith }
 
-  pub visit_name : (word : ℕ) (q : Typed.Side) (x : NameNo) → q ≡ typed (side word) → q ≡ Name x
-      → Steps mem ss (side word ∷ []) seen (ltb x.0 names_max) seen
-  visit_name word q x d m = rw (side-name (side word) x (sym m ∙ d)) at (name-steps x.0)
+  pub visit_name : (word j : ℕ) (q : Typed.Side) (x : NameNo) → q ≡ typed (side word) → q ≡ Name x → j ≡ x.0
+      → Steps mem ss (side word ∷ []) seen (ltb j names_max) seen
+  visit_name word j q x d m e = rw e (rw (side-name (side word) x (sym m ∙ d)) at (name-steps x.0))
 
-  cell-barred : (c r : ℕ) (seen₁ : List ℕ) → Entered ss c seen r seen₁ → r ≡ 0 → Steps mem ss (cell c ∷ []) seen false seen₁
-  cell-barred c ℕ.zero seen₁ (barred h) z = record { goes = λ todo r k. rw k (h mem todo); size = refl; falls = omega arith }
-  cell-barred c r seen₁ (entered k e n i) z = absurd (k z)
+  cell-barred : (c : ℕ) (o : Option ℕ) (seen₁ : List ℕ) → Entered ss c seen o seen₁ → o ≡ None → Steps mem ss (cell c ∷ []) seen false seen₁
+  cell-barred c o seen₁ (barred h) z = record { goes = λ todo r k. rw k (h mem todo); size = refl; falls = omega arith }
+  cell-barred c o seen₁ (entered k e n i) z = cc
 
-  pub visit_barred : (seen₁ : List ℕ) (word r : ℕ) (q : Typed.Side) (c : CellNo) → q ≡ typed (side word) → q ≡ Cell c
-      → Entered ss c.0 seen r seen₁ → r ≡ 0 → Steps mem ss (side word ∷ []) seen false seen₁
-  visit_barred seen₁ word r q c d m e z = rw (side-cell (side word) c (sym m ∙ d)) at (cell-barred c.0 r seen₁ e z)
+  pub visit_barred : (seen₁ : List ℕ) (word : ℕ) (q : Typed.Side) (c : CellNo) → q ≡ typed (side word) → q ≡ Cell c
+      → Entered ss c.0 seen None seen₁ → Steps mem ss (side word ∷ []) seen false seen₁
+  visit_barred seen₁ word q c d m e = rw (side-cell (side word) c (sym m ∙ d)) at (cell-barred c.0 None seen₁ e refl)
 
 -- The words of a row are the sides of a part of the list.
 pub row-map : (l : List ℕ) (from n : ℕ) → from + n ≤ length l → row l from n ≡ map side (take n (drop from l))
@@ -120,40 +115,47 @@ module _ (w : List ℕ) (s : St) where
       row-map s.arguments (arity_max * c) n (omega (arith, z.arguments, en.1))
       ∙ ap (λ n. map side (take n (drop (arity_max * c) s.arguments))) (en.0 ∙ ap (width (under w).arities) e)
 
-  cell-into : (seen seen₁ seen₂ : List ℕ) (c r n : ℕ) (ok : Bool) → Ready w s seen → Entered s.symbols c seen r seen₁ → ¬ (r ≡ 0)
+  cell-into : (seen seen₁ seen₂ : List ℕ) (c r n : ℕ) (o : Option ℕ) (ok : Bool) → Ready s seen → Entered s.symbols c seen o seen₁ → o ≡ Some r
       → (n ≡ width (under w).arities r) × (n ≤ arity_max) → Walked w s (row s.arguments (arity_max * c) n) seen₁ ok seen₂
       → Walked w s (cell c ∷ []) seen ok seen₂
-  cell-into seen seen₁ seen₂ c r n ok z (barred h) k en g = absurd (k refl)
-  cell-into seen seen₁ seen₂ c r n ok z (entered k e v i) _ en g =
-      let a = cell-args z.sizes c n r (omega (arith, z.marks)) e en in
+  cell-into seen seen₁ seen₂ c r n o ok z (barred h) k en g = cc
+  cell-into seen seen₁ seen₂ c r n o ok z (entered {r = r'} k e v i) q en g =
+      let f : r' ≡ r = cc in
+      let a = cell-args z.sizes c n r' (omega (arith, z.marks)) e (rw (sym f) at en) in
       record {
         goes = λ todo q h. into v (λ y. k (e ∙ y)) (rw a at (g.goes todo q h));
         size = g.size ∙ length-set seen c 1;
         falls = omega (arith, g.falls, unmet-set seen c i v);
       }
 
-  module _ (seen seen₁ : List ℕ) (c : CellNo) (r : ℕ) (z : Ready w s seen) (e : Entered s.symbols c.0 seen r seen₁) where
-    pub visit_into : (seen₂ : List ℕ) (word n : ℕ) (q : Typed.Side) (ok : Bool) → q ≡ typed (side word) → q ≡ Cell c → ¬ (r ≡ 0)
-        → (n ≡ width (under w).arities r) × (n ≤ arity_max)
-        → Walked w s (row s.arguments (arity_max * c.0) n) seen₁ ok seen₂
+  module _ (seen seen₁ : List ℕ) (c : CellNo) (r : ℕ) (z : Ready s seen) (e : Entered s.symbols c.0 seen (Some r) seen₁) where
+    pub visit_into : (seen₂ : List ℕ) (word n k j : ℕ) (q : Typed.Side) (ok : Bool) → q ≡ typed (side word) → q ≡ Cell c
+        → n ≡ k → (k ≡ width (under w).arities r) × (k ≤ arity_max) → j ≡ c.0
+        → Walked w s (row s.arguments (arity_max * j) n) seen₁ ok seen₂
         → Walked w s (side word ∷ []) seen ok seen₂
-    visit_into seen₂ word n q ok d m k en g =
-        rw (side-cell (side word) c (sym m ∙ d)) at (cell-into seen seen₁ seen₂ c.0 r n ok z e k en g)
+    visit_into seen₂ word n k j q ok d m en f ej g =
+        rw (side-cell (side word) c (sym m ∙ d)) at (cell-into seen seen₁ seen₂ c.0 r k (Some r) ok z e refl f (rw (en, ej) at g))
 
   -- What a cell that is entered gives to the walk of its arguments.
-  pub ready-entered : (seen seen₁ : List ℕ) (c r : ℕ) → Ready w s seen → Entered s.symbols c seen r seen₁ → Ready w s seen₁
-  ready-entered seen seen₁ c r z (barred h) = z
-  ready-entered seen seen₁ c r z (entered k e v i) = record { usable = z.usable; sizes = z.sizes; marks = length-set seen c 1 ∙ z.marks }
+  ready-after : (seen seen₁ : List ℕ) (c : ℕ) (o : Option ℕ) → Ready s seen → Entered s.symbols c seen o seen₁ → Ready s seen₁
+  ready-after seen seen₁ c o z (barred h) = z
+  ready-after seen seen₁ c o z (entered k e v i) = record { sizes = z.sizes; marks = length-set seen c 1 ∙ z.marks }
 
-  pub entered-fits : (seen seen₁ : List ℕ) (c r n : ℕ) → Ready w s seen → Entered s.symbols c seen r seen₁ → ¬ (r ≡ 0)
-      → (n ≡ width (under w).arities r) × (n ≤ arity_max) → arity_max * c + n ≤ arity_max * cells_max
-  entered-fits seen seen₁ c r n z (barred h) k en = absurd (k refl)
-  entered-fits seen seen₁ c r n z (entered k e v i) _ en = omega (arith, z.marks, en.1)
+  pub ready-entered : (seen seen₁ : List ℕ) (c r : ℕ) → Ready s seen → Entered s.symbols c seen (Some r) seen₁ → Ready s seen₁
+  ready-entered seen seen₁ c r z e = ready-after seen seen₁ c (Some r) z e
 
-  pub entered-falls : (seen seen₁ : List ℕ) (c r t : ℕ) → Entered s.symbols c seen r seen₁ → ¬ (r ≡ 0) → 2 * unmet seen ≡ t
+  inside-after : (seen seen₁ : List ℕ) (c r : ℕ) (o : Option ℕ) → Entered s.symbols c seen o seen₁ → o ≡ Some r
+      → (c < length seen) × (unmet seen ≡ suc (unmet seen₁))
+  inside-after seen seen₁ c r o (barred h) q = cc
+  inside-after seen seen₁ c r o (entered k e v i) q = (i, unmet-set seen c i v)
+
+  pub entered-fits : (seen seen₁ : List ℕ) (c r n k j : ℕ) → Ready s seen → Entered s.symbols c seen (Some r) seen₁
+      → n ≡ k → (k ≡ width (under w).arities r) × (k ≤ arity_max) → j ≡ c → arity_max * j + n ≤ arity_max * cells_max
+  entered-fits seen seen₁ c r n k j z e en f ej = omega (arith, z.marks, f.1, (inside-after seen seen₁ c r (Some r) e refl).0)
+
+  pub entered-falls : (seen seen₁ : List ℕ) (c r t : ℕ) → Entered s.symbols c seen (Some r) seen₁ → 2 * unmet seen ≡ t
       → 2 * unmet seen₁ + 1 < t
-  entered-falls seen seen₁ c r t (barred h) k m = absurd (k refl)
-  entered-falls seen seen₁ c r t (entered k e v i) _ m = omega (arith, unmet-set seen c i v)
+  entered-falls seen seen₁ c r t e m = omega (arith, (inside-after seen seen₁ c r (Some r) e refl).1)
 
   pub row-falls : (all rest : List Side) (seen seen₁ : List ℕ) (t : ℕ) → Left w s all seen rest seen₁ → 2 * unmet seen + 1 ≡ t → 2 * unmet seen₁ < t
   row-falls all rest seen seen₁ t h m = omega (arith, h.falls)

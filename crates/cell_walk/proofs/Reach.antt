@@ -1,18 +1,12 @@
 -- The walk from all roots is the model's search, which has steps enough.
-use mathlib.Core.Path.{◌≡◌, refl, ap, ap₂, sym, ◌∙◌, subst}
-use mathlib.Core.Bool.{Bool, true, false, not}
-use mathlib.Core.List.{List, [], ◌++◌, append-nil}
-use Prim.Native.Nat.{ℕ, zero, suc, ◌+◌, ◌*◌, ◌<◌, ◌≤◌}
-use native.Mathlib.Omega.{arith}
-use native.Mathlib.Decide.{dec_lt}
-use lib.Dec.{eqb}
-use lib.ListN.{length, get_or, take, drop, length-set, length-take, length-append, length-map}
-use borrow.Author.Tests.{not-true, not-false}
+use Rattle.std.proofs.Common.{◌≡◌, refl, ap, sym, ◌∙◌, subst, Bool, true, false, List, [], ◌++◌, append-nil, ℕ, zero, suc, ◌+◌, ◌*◌, ◌<◌, ◌≤◌, arith, length, get_or, take, drop, length-set, length-take, length-append}
+use Rattle.std.proofs.Math.Decide.{dec_lt}
+use Rattle.std.proofs.Math.ListN.{length-map}
 use Rattle.parts.specs.Limits.{arity_max, cells_max, names_max}
 use Rattle.parts.specs.Sides.{Side, side}
 use Rattle.model.specs.State.{St, zeros}
 use Rattle.model.specs.Table as Model
-use Rattle.model.specs.Sound.{width, live, Sizes, mem_of}
+use Rattle.model.specs.Sound.{width, Sizes, mem_of}
 use Rattle.model.specs.Test.{every, Search, lost, saw, search_from, roots, searched, all_seen, reached}
 use Rattle.model.proofs.Beneath.Facts.{zeros-length}
 use Rattle.model.proofs.Beneath.Pool.{in_range}
@@ -20,10 +14,6 @@ use Rattle.sound.specs.Lent.{under, Usable}
 use Rattle.sound.proofs.Tables.{width_small}
 use Rattle.cell_walk.specs.Walks.{Walks, done, past, beyond, again, unused, into, unmet, Walked, Ready, all_roots, met}
 use Rattle.cell_walk.proofs.Cells.{unmet-set}
-
-pub met_way : (ss seen : List ℕ) (c a b : ℕ) → a ≡ get_or seen c 0 → b ≡ live ss c → eqb a b ≡ met ss seen c
-unfolding met
-met_way ss seen c a b e f = ap₂ eqb e f
 
 -- One step of the search: at a name, by whether it is in range; at a cell, by its mark v and the word u of its symbol.
 abbrev at_name : (x : ℕ) → Dec (x < names_max) → Search → Search
@@ -110,18 +100,18 @@ module _ (w : List ℕ) (s : St) (u : Usable w × Sizes s) where
         (subst (λ l. Walks (mem_of (under w) s) s.symbols l (zeros (length s.symbols)) r) (append-nil (all_roots s))
         (subst (λ z. Walks (mem_of (under w) s) s.symbols (all_roots s ++ []) z r) (e ∙ ap zeros (sym u.1.symbols)) k))
 
-    pub ready_new : Ready w s seen
-    ready_new = record { usable = u.0; sizes = u.1; marks = ap length e ∙ zeros-length cells_max }
+    pub ready_new : Ready s seen
+    ready_new = record { sizes = u.1; marks = ap length e ∙ zeros-length cells_max }
 
-    pub reached-lost : (ok : Bool) → Walked w s (all_roots s) seen ok seen₁ → not ok ≡ true → false ≡ reached (under w) s
+    pub reached-lost : (ok : Bool) → Walked w s (all_roots s) seen ok seen₁ → ok ≡ false → ok ≡ reached (under w) s
     unfolding reached
     reached-lost ok f t =
-        let g = subst (λ b. Walked w s (all_roots s) seen b seen₁) (not-true ok t) f in
-        ap (λ r. all_seen r s.symbols) (sym (from-zeros (g.goes [] lost refl)))
+        let g = subst (λ b. Walked w s (all_roots s) seen b seen₁) t f in
+        t ∙ ap (λ r. all_seen r s.symbols) (sym (from-zeros (g.goes [] lost refl)))
 
-    pub reached-saw : (ok r : Bool) → Walked w s (all_roots s) seen ok seen₁ → not ok ≡ false
+    pub reached-saw : (ok r : Bool) → Walked w s (all_roots s) seen ok seen₁ → ok ≡ true
         → r ≡ every cells_max (met s.symbols seen₁) → r ≡ reached (under w) s
     unfolding reached met
     reached-saw ok r f t q =
-        let g = subst (λ b. Walked w s (all_roots s) seen b seen₁) (not-false ok t) f in
+        let g = subst (λ b. Walked w s (all_roots s) seen b seen₁) t f in
         q ∙ ap (λ r. all_seen r s.symbols) (sym (from-zeros (g.goes [] (saw seen₁) done)))

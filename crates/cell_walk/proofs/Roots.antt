@@ -1,28 +1,21 @@
 -- One law for each way through the walk from all that cells are reached from: lists of equations, ties and joins, all roots.
-use mathlib.Core.Path.{◌≡◌, refl, ap, sym, ◌∙◌, subst}
-use mathlib.Core.Bool.{Bool, true, false, not}
-use mathlib.Core.List.{List, [], ◌∷◌, ◌++◌, map}
-use Prim.Native.Nat.{ℕ, suc, ◌+◌, ◌*◌, ◌-◌, ◌<◌, ◌≤◌}
-use native.Mathlib.Omega.{arith}
-use native.Mathlib.Numerals.{add-one}
-use native.Mathlib.Decide.{dec_lt}
-use lib.Dec.{ltb}
-use lib.ListN.{length, get_or, take, drop}
-use lib.Seq.{drop-cons}
+use Rattle.std.proofs.Common.{◌≡◌, refl, ap, sym, ◌∙◌, subst, Bool, true, false, List, [], ◌∷◌, ◌++◌, append_assoc, map, ℕ, suc, ◌+◌, ◌*◌, ◌-◌, ◌<◌, ◌≤◌, arith, add-one, ltb, length, get_or, take, drop, drop-cons}
+use Rattle.std.proofs.Math.Decide.{dec_lt}
 use Rattle.parts.specs.Limits.{names_max}
-use Rattle.parts.specs.Sides.{name, cell, Pair, ◌:=◌, side}
+use Rattle.parts.specs.Sides.{Side, name, cell, Pair, ◌:=◌, side}
 use Rattle.parts.specs.Typed.{typed}
 use Rattle.parts.specs.declared.Side as Typed
 use Rattle.parts.specs.declared.Side.TheVariants.{Name, Cell}
 use Rattle.parts.specs.declared.NameNo.{NameNo}
 use Rattle.parts.specs.declared.CellNo.{CellNo}
-use Rattle.model.specs.State.{St, unpack, listed}
+use Rattle.model.specs.State.{St, unpack}
 use Rattle.model.specs.Reading.{link, bond_at, bonds}
 use Rattle.model.specs.Table as Model
-use Rattle.model.specs.Sound.{sides}
+use Rattle.model.specs.Sound.{sides, mem_of}
 use Rattle.model.specs.Test.{sides_of}
+use Rattle.sound.specs.Lent.{under}
 use Rattle.cell_walk.specs.Walks.{Steps, Walked, row, Ready, all_roots}
-use Rattle.cell_walk.proofs.Steps.{steps_none, steps_then, Cut, Begins, begins, Left, left_all, left_more, left_stop, left_last}
+use Rattle.cell_walk.proofs.Steps.{steps_none, steps_then, steps-stop, Cut, Begins, begins}
 use Rattle.cell_walk.proofs.Cells.{side-name, side-cell, name-inside, name-steps, row-map}
 
 -- The equations of a list, the last first.
@@ -79,14 +72,16 @@ module _ (mem : ℕ → Model.Cell) (ss l seen : List ℕ) (x word : ℕ) (e : w
   bond_none h = by_pair [] (bare_at x word h) (steps_none mem ss seen)
 
   module _ (q : Typed.Side) (h : 2 ≤ word) (d : q ≡ typed (side (word - 2))) where
-    pub bond-low : (y : NameNo) → q ≡ Name y → y.0 ≤ x → Steps mem ss (sides_of (bond_at x (get_or l x 0))) seen true seen
-    bond-low y m k =
-        by_pair [] (bound_at x word h ∙ ap (link x) (sym (side-name (side (word - 2)) y (sym m ∙ d))) ∙ link-low x y.0 k) (steps_none mem ss seen)
+    pub bond-low : (y : NameNo) (j : ℕ) → q ≡ Name y → j ≡ y.0 → j ≤ x → Steps mem ss (sides_of (bond_at x (get_or l x 0))) seen true seen
+    bond-low y j m i k =
+        by_pair [] (bound_at x word h ∙ ap (link x) (sym (side-name (side (word - 2)) y (sym m ∙ d))) ∙ link-low x y.0 (omega arith)) (steps_none mem ss seen)
 
-    pub bond-high : (y : NameNo) → q ≡ Name y → x < names_max → x < y.0 → Steps mem ss (sides_of (bond_at x (get_or l x 0))) seen (ltb y.0 names_max) seen
-    bond-high y m b k =
-        by_pair ((name x := name y.0) ∷ []) (bound_at x word h ∙ ap (link x) (sym (side-name (side (word - 2)) y (sym m ∙ d))) ∙ link-high x y.0 k)
-        (steps_then mem ss {l = name x ∷ []} {m = name y.0 ∷ []} (name-inside mem ss seen x b) (name-steps mem ss seen y.0))
+    pub bond-high : (y : NameNo) (j : ℕ) → q ≡ Name y → j ≡ y.0 → x < names_max → x < j
+        → Steps mem ss (sides_of (bond_at x (get_or l x 0))) seen (ltb j names_max) seen
+    bond-high y j m i b k =
+        by_pair ((name x := name j) ∷ [])
+        (bound_at x word h ∙ ap (link x) (sym (side-name (side (word - 2)) y (sym m ∙ d)) ∙ ap name (sym i)) ∙ link-high x j k)
+        (steps_then mem ss {l = name x ∷ []} {m = name j ∷ []} (name-inside mem ss seen x b) (name-steps mem ss seen j))
 
     pub bond_tied : (seen₁ : List ℕ) (c : CellNo) (ok : Bool) → q ≡ Cell c → x < names_max → Steps mem ss (side (word - 2) ∷ []) seen ok seen₁
         → Steps mem ss (sides_of (bond_at x (get_or l x 0))) seen ok seen₁
@@ -101,7 +96,7 @@ sides_plus : (l m : List Pair) → sides_of (l ++ m) ≡ sides_of l ++ sides_of 
 sides_plus [] m = refl
 sides_plus ((a := b) ∷ l) m = ap (λ k. a ∷ b ∷ k) (sides_plus l m)
 
-module _ (w : List ℕ) (s : St) (seen : List ℕ) (z : Ready w s seen) where
+module _ (w : List ℕ) (s : St) (seen : List ℕ) (z : Ready s seen) where
   pub bonds-cut : (x : ℕ) → x < names_max
       → Cut (sides_of (bonds x (drop x s.names))) (sides_of (bond_at x (get_or s.names x 0))) (sides_of (bonds (x + 1) (drop (x + 1) s.names)))
   bonds-cut x h =
@@ -124,39 +119,23 @@ module _ (w : List ℕ) (s : St) (seen : List ℕ) (z : Ready w s seen) where
       gone (v ∷ l) ℕ.zero h = absurd (omega arith)
       gone (v ∷ l) (ℕ.suc n) h = gone l n (omega arith)
 
-  pub face-cut : (n : ℕ) → n ≡ s.face.used
-      → Cut (all_roots s) (row s.face.words 0 n) (sides_of (listed s.waiting ++ (bonds 0 s.names ++ listed s.stuck)))
-  unfolding all_roots
-  face-cut n e =
-      let f : row s.face.words 0 n ≡ sides s.face =
-      row-map s.face.words 0 n (omega (arith, z.sizes.face, z.sizes.faces)) ∙ ap (λ n. map side (take n s.face.words)) e in
-      record { parts = ap (λ m. m ++ sides_of (listed s.waiting ++ (bonds 0 s.names ++ listed s.stuck))) (sym f) }
+-- Some sides, and others after them if all was well with the first.
+module _ (w : List ℕ) (s : St) {l : List Side} {seen seen₁ : List ℕ} {t : Bool} (m : List Side) (f : Walked w s l seen t seen₁) where
+  pub more_walked : {seen₂ : List ℕ} {u : Bool} → t ≡ true → Walked w s m seen₁ u seen₂ → Walked w s (l ++ m) seen u seen₂
+  more_walked {seen₂} {u} e g = steps_then (mem_of (under w) s) s.symbols (rw e at f) g
 
-module _ {w : List ℕ} {s : St} {seen seen₁ : List ℕ} {f a k : ℕ} {t₁ : Bool} (z : Ready w s seen) (ef : f ≡ s.face.used) (ea : a ≡ s.waiting.used)
-    (ek : k ≡ s.stuck.used) (g₁ : Walked w s (row s.face.words 0 f) seen t₁ seen₁) where
-  pub roots_1 : not t₁ ≡ true → Walked w s (all_roots s) seen false seen₁
-  roots_1 q = left_stop (left_all w s (all_roots s) seen) g₁ q (begins (face-cut w s seen z f ef))
+  pub no_more : t ≡ false → Walked w s (l ++ m) seen t seen₁
+  no_more e = rw e (steps-stop (mem_of (under w) s) s.symbols m (rw e at f))
 
-  module _ {seen₂ : List ℕ} {t₂ : Bool} (q₁ : not t₁ ≡ false) (g₂ : Walked w s (sides_of (unpack a s.waiting.words)) seen₁ t₂ seen₂) where
-    pools : Left w s (all_roots s) seen (sides_of (listed s.waiting ++ (bonds 0 s.names ++ listed s.stuck))) seen₁
-    pools = left_more (left_all w s (all_roots s) seen) g₁ q₁ (face-cut w s seen z f ef)
-
-    waits-cut : Cut (sides_of (listed s.waiting ++ (bonds 0 s.names ++ listed s.stuck))) (sides_of (unpack a s.waiting.words)) (sides_of (bonds 0 s.names ++ listed s.stuck))
-    waits-cut =
-        let m = bonds 0 s.names ++ listed s.stuck in
-        record { parts = sides_plus (listed s.waiting) m ∙ ap (λ n. sides_of (unpack n s.waiting.words) ++ sides_of m) (sym ea) }
-
-    pub roots_2 : not t₂ ≡ true → Walked w s (all_roots s) seen false seen₂
-    roots_2 q = left_stop pools g₂ q (begins waits-cut)
-
-    module _ {seen₃ : List ℕ} {t₃ : Bool} (q₂ : not t₂ ≡ false) (g₃ : Walked w s (sides_of (bonds 0 s.names)) seen₂ t₃ seen₃) where
-      ties-cut : Cut (sides_of (bonds 0 s.names ++ listed s.stuck)) (sides_of (bonds 0 s.names)) (sides_of (listed s.stuck))
-      ties-cut = record { parts = sides_plus (bonds 0 s.names) (listed s.stuck) }
-
-      pub roots_3 : not t₃ ≡ true → Walked w s (all_roots s) seen false seen₃
-      roots_3 q = left_stop (left_more pools g₂ q₂ waits-cut) g₃ q (begins ties-cut)
-
-      pub roots_4 : {seen₄ : List ℕ} {r : Bool} → not t₃ ≡ false → Walked w s (sides_of (unpack k s.stuck.words)) seen₃ r seen₄
-          → Walked w s (all_roots s) seen r seen₄
-      roots_4 q g₄ =
-          left_last (left_more (left_more pools g₂ q₂ waits-cut) g₃ q ties-cut) g₄ (ap (λ n. sides_of (unpack n s.stuck.words)) (sym ek))
+pub roots_walked : (w : List ℕ) (s : St) {seen seen₁ : List ℕ} {f a k : ℕ} {ok : Bool} → Ready s seen
+    → f ≡ s.face.used → a ≡ s.waiting.used → k ≡ s.stuck.used
+    → Walked w s (((row s.face.words 0 f ++ sides_of (unpack a s.waiting.words)) ++ sides_of (bonds 0 s.names)) ++ sides_of (unpack k s.stuck.words)) seen ok seen₁
+    → Walked w s (all_roots s) seen ok seen₁
+unfolding all_roots
+roots_walked w s {seen} {seen₁} {f} {a} {k} {ok} z ef ea ek g = subst (λ l. Walked w s l seen ok seen₁) e g
+  where
+    e : ((row s.face.words 0 f ++ sides_of (unpack a s.waiting.words)) ++ sides_of (bonds 0 s.names)) ++ sides_of (unpack k s.stuck.words) ≡ all_roots s
+    e =
+        let p : row s.face.words 0 f ≡ sides s.face =
+        row-map s.face.words 0 f (omega (arith, z.sizes.face, z.sizes.faces)) ∙ ap (λ n. map side (take n s.face.words)) ef in
+        rw (p, ea, ek) (simp (append_assoc, sides_plus))

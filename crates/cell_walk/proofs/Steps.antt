@@ -1,10 +1,5 @@
 -- Sides walked one after the other, and what is left of them while a walk goes on: the one invariant of every loop here.
-use mathlib.Core.Path.{◌≡◌, refl, ◌∙◌}
-use mathlib.Core.Bool.{Bool, true, false, not}
-use mathlib.Core.List.{List, [], ◌++◌, append_assoc}
-use Prim.Native.Nat.{ℕ, ◌≤◌}
-use native.Mathlib.Omega.{arith}
-use lib.ListN.{length}
+use Rattle.std.proofs.Common.{◌≡◌, refl, ◌∙◌, Bool, true, false, not, List, [], ◌++◌, append_assoc, ℕ, ◌≤◌, arith, length}
 use borrow.Author.Tests.{not-true, not-false}
 use Rattle.parts.specs.Sides.{Side}
 use Rattle.model.specs.State.{St}
@@ -49,8 +44,8 @@ pub left_all : (w : List ℕ) (s : St) (l : List Side) (seen : List ℕ) → Lef
 left_all w s l seen = record { on = λ ok seen₁ f. f; size = refl; falls = omega arith }
 
 module _ {w : List ℕ} {s : St} {all rest : List Side} {before seen : List ℕ} (h : Left w s all before rest seen) where
-  pub left_ready : Ready w s before → Ready w s seen
-  left_ready z = record { usable = z.usable; sizes = z.sizes; marks = h.size ∙ z.marks }
+  pub left_ready : Ready s before → Ready s seen
+  left_ready z = record { sizes = z.sizes; marks = h.size ∙ z.marks }
 
   pub left_end : rest ≡ [] → Walked w s all before true seen
   left_end e = h.on true seen (rw e (steps_none (mem_of (under w) s) s.symbols seen))
@@ -68,6 +63,3 @@ module _ {w : List ℕ} {s : St} {all rest : List Side} {before seen : List ℕ}
     pub left_stop : not ok ≡ true → Begins rest a → Walked w s all before false seen₁
     left_stop t e =
         h.on false seen₁ (rw e.cut.parts (steps-stop (mem_of (under w) s) s.symbols e.after (rw (not-true ok t) at f)))
-
-    pub left_last : rest ≡ a → Walked w s all before ok seen₁
-    left_last e = h.on ok seen₁ (rw e f)

@@ -1,12 +1,12 @@
 -- The walk over cells as the code makes it: some sides are walked, and then what is to be looked at after them.
-use Rattle.std.specs.Prelude.{◌≡◌, Bool, true, false, List, [], ◌∷◌, ◌++◌, ℕ, zero, suc, ◌<◌, ◌≤◌, eqb, length, get_or, set}
+use Rattle.std.specs.Prelude.{◌≡◌, Bool, true, false, Option, Some, None, List, [], ◌∷◌, ◌++◌, ℕ, zero, suc, ◌<◌, ◌≤◌, eqb, length, get_or, set}
 use Rattle.parts.specs.Limits.{cells_max, names_max}
 use Rattle.parts.specs.Sides.{Side, name, cell, side}
 use Rattle.model.specs.State.{St}
 use Rattle.model.specs.Sound.{Sizes, live, mem_of}
 use Rattle.model.specs.Table.{Cell}
 use Rattle.model.specs.Test.{Search, lost, saw, roots}
-use Rattle.sound.specs.Lent.{under, Usable}
+use Rattle.sound.specs.Lent.{under}
 
 -- `Walks mem ss todo seen r`: the model's search, from these sides and with these cells seen, comes to r, if it is given enough steps.
 pub data Walks (mem : ℕ → Cell) (ss : List ℕ) : List Side → List ℕ → Search → Type 0 where
@@ -45,14 +45,13 @@ unfoldable pub row : List ℕ → ℕ → ℕ → List Side
 row l from zero = []
 row l from (suc n) = side (get_or l from 0) ∷ row l (suc from) n
 
--- Cell c may not be entered, and r is 0; or it is entered and marked, and r is the word of its symbol.
-pub data Entered (ss : List ℕ) (c : ℕ) (seen : List ℕ) : ℕ → List ℕ → Type 0 where
-  barred : ((mem : ℕ → Cell) (todo : List Side) → Walks mem ss (cell c ∷ todo) seen lost) → Entered ss c seen 0 seen
-  entered : {r : ℕ} → ¬ (r ≡ 0) → r ≡ get_or ss c 0 → get_or seen c 0 ≡ 0 → c < length seen → Entered ss c seen r (set seen c 1)
+-- Cell c may not be entered; or it is entered and marked, and r is the word of its symbol.
+pub data Entered (ss : List ℕ) (c : ℕ) (seen : List ℕ) : Option ℕ → List ℕ → Type 0 where
+  barred : ((mem : ℕ → Cell) (todo : List Side) → Walks mem ss (cell c ∷ todo) seen lost) → Entered ss c seen None seen
+  entered : {r : ℕ} → ¬ (r ≡ 0) → r ≡ get_or ss c 0 → get_or seen c 0 ≡ 0 → c < length seen → Entered ss c seen (Some r) (set seen c 1)
 
--- What the walk asks of the table, of the state and of the marks of the cells seen.
-pub record Ready (w : List ℕ) (s : St) (seen : List ℕ) : Type 0 where
-  pub usable : Usable w
+-- What the walk asks of the state and of the marks of the cells seen.
+pub record Ready (s : St) (seen : List ℕ) : Type 0 where
   pub sizes : Sizes s
   pub marks : length seen ≡ cells_max
 

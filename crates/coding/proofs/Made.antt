@@ -21,14 +21,14 @@ filled_more l size f i v g h e = record {
   each = below_more _ i (λ k q. get_or-set_other l i k v 0 (omega (arith, q)) ∙ g.each k q) (get_or-set_same l i v 0 (omega (arith, g.long)) ∙ e);
 }
 
-pub node_first : (s : Sheet) (c d j v x : ℕ) → j ≡ 0 → d ≡ c → x ≡ get_or s.symbols d 0 → v ≡ x % byte_size → v ≡ node_byte s c j
+pub node_first : (s : Sheet) (c j v x : ℕ) → j ≡ 0 → x ≡ get_or s.symbols c 0 → v ≡ x % byte_size → v ≡ node_byte s c j
 unfolding node_byte
-node_first s c d j v x ej ed ex ev = rw (ej, ev, ex, ed)
+node_first s c j v x ej ex ev = rw (ej, ev, ex)
 
-pub node-later : (s : Sheet) (c d j v x : ℕ) → (j ≡ 0 → ⊥) → d ≡ c → x ≡ get_or s.arguments (arity_max * d + (j - 1)) 0 → v ≡ x % byte_size → v ≡ node_byte s c j
+pub node-later : (s : Sheet) (c j v x : ℕ) → (j ≡ 0 → ⊥) → x ≡ get_or s.arguments (arity_max * c + (j - 1)) 0 → v ≡ x % byte_size → v ≡ node_byte s c j
 unfolding node_byte
-node-later s c d ℕ.zero v x h ed ex ev = absurd (h refl)
-node-later s c d (ℕ.suc k) v x h ed ex ev = let z : suc k - 1 ≡ k = omega arith in ev ∙ (rw (ex, ed, z))
+node-later s c ℕ.zero v x h ex ev = absurd (h refl)
+node-later s c (ℕ.suc k) v x h ex ev = let z : suc k - 1 ≡ k = omega arith in ev ∙ (rw (ex, z))
 
 pub filled_end : (l : List ℕ) (size : ℕ) (f : ℕ → ℕ) (i n : ℕ) → Filled l size f i → n ≤ i → Filled l size f n
 filled_end l size f i n g h = record { long = g.long; each = λ k q. g.each k (omega (arith, q)) }

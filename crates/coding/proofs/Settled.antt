@@ -1,13 +1,10 @@
 -- Each way out of the functions that settle a rule.
-use Prim.Native.Nat.{ℕ, ◌≤◌}
+use Prim.Native.Nat.{ℕ}
 use mathlib.Core.Path.{◌≡◌, refl, sym, ap, ap₂, ◌∙◌}
 use mathlib.Core.Bool.{Bool, true, false, not, ◌&&◌}
 use mathlib.Core.List.{List, [], ◌∷◌, map-append}
-use native.Mathlib.Omega.{arith}
-use lib.ListN.{length, get_or}
 use lib.Dec.{eqb}
-use borrow.Author.Tests.{eq-eqb, ne_eqb}
-use Rattle.parts.specs.Limits.{rule_equations_max, rule_size}
+use borrow.Author.Tests.{eq-eqb}
 use Rattle.model.specs.Table.{none, find}
 use Rattle.texts.specs.Bytes.{any}
 use Rattle.texts.specs.Books.{Agent, Book, is_rule, add}
@@ -27,18 +24,10 @@ use Rattle.coding.specs.Laws.Pairs.{pair-fault}
 use Rattle.coding.specs.Laws.Selves.{self-fault}
 
 -- A rule of a symbol with itself; q is its row.
-pub flat-room : (q : List ℕ) (rule : Rule) → q ≡ row rule → length q ≡ rule_size → rule.equations ≤ rule_equations_max
-    → (length q ≡ rule_size) × (get_or q 2 0 ≤ rule_equations_max)
-flat-room q rule e l h = (l, omega (arith, ap (λ v. get_or v 2 0) e, h))
-
 pub one_self : (q : List ℕ) (rule : Rule) (t : Bool) → rule.left ≡ rule.right → q ≡ row rule → ((ags : List Agent) → t ≡ is_two_sided (entry_of ags q))
     → (ags : List Agent) → not t ≡ (eqb rule.left rule.right && not (is_two_sided (stands ags rule)))
 unfolding stands
 one_self q rule t e eq h ags = rw (eq-eqb rule.left rule.right e) (ap not (h ags ∙ ap (λ l. is_two_sided (entry_of ags l)) eq))
-
-pub one_other : (rule : Rule) → (rule.left ≡ rule.right → ⊥) → (ags : List Agent)
-    → false ≡ (eqb rule.left rule.right && not (is_two_sided (stands ags rule)))
-one_other rule e ags = rw (ne_eqb rule.left rule.right e)
 
 -- The numbers 9 and 10, and the table with the rule.
 module _ (w : List ℕ) (rule : Rule) (h : Bool) (has : (t : Table) → w ≡ bytes_of t → h ≡ any (pair_test rule.left rule.right) t.rules) where

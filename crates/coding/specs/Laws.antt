@@ -3,3 +3,4 @@ pub mod Stores
 pub mod Pairs
 pub mod Selves
 pub mod Stands
+pub mod Numbers

@@ -11,18 +11,11 @@ use terms::sheet::{Sheet, argument, cells, names, symbol_word};
 // How many numbers a byte holds.
 const BYTE: u16 = 256;
 
-// The low byte.
+// The low byte: a cast alone asks for a proof that the number fits.
 fn low(x: u16) -> u8
     ensures { result ≡ x % byte_size }
 {
     (x % BYTE) as u8
-}
-
-fn cell_no(c: usize) -> CellNo
-    requires { c < net_cells_max }
-    ensures { result.0 ≡ c }
-{
-    CellNo(c as u16)
 }
 
 // The codes of the sides, a byte each.
@@ -31,10 +24,8 @@ fn sides_of(codes: &[u16], n: usize) -> [u8; 2 * Limits::RULE_EQUATIONS]
     ensures { Filled result (2 * rule_equations_max) (side_bytes codes.now) n }
 {
     let mut list = [0u8; 2 * Limits::RULE_EQUATIONS];
-    let mut i: usize = 0;
-    while i < n {
+    for i in 0..n {
         list[i] = low(codes[i]);
-        i += 1;
     }
     list
 }
@@ -44,7 +35,7 @@ fn node_byte(sheet: &[u16; Sheet::SIZE], c: usize, j: usize) -> u8
     requires { (c < net_cells_max) × (j < node_size) }
     ensures { result ≡ node_byte (view sheet.now) c j }
 {
-    let cell = cell_no(c);
+    let cell = CellNo(c as u16);
     if j == 0 {
         return low(symbol_word(sheet, cell));
     }
@@ -57,10 +48,8 @@ fn nodes_of(sheet: &[u16; Sheet::SIZE], n: usize) -> [u8; Limits::NODE * Limits:
     ensures { Filled result (node_size * rule_cells_max) (node_bytes (view sheet.now)) n }
 {
     let mut list = [0u8; Limits::NODE * Limits::RULE_CELLS];
-    let mut p: usize = 0;
-    while p < n {
+    for p in 0..n {
         list[p] = node_byte(sheet, p / Limits::NODE, p % Limits::NODE);
-        p += 1;
     }
     list
 }
@@ -85,6 +74,6 @@ pub fn rule_of(
         cells: low(m),
         names: low(fresh),
         sides: sides_of(codes, n),
-        nodes: nodes_of(sheet, Limits::NODE * (m as usize)),
+        nodes: nodes_of(sheet, Limits::NODE * usize::from(m)),
     }
 }

@@ -1,14 +1,5 @@
 -- The answer of an ended sound state: the call is not refused, unless the answer is too long, and what is printed of it.
-use Prim.Native.Nat.{ℕ, zero, suc, ◌+◌, ◌≤◌}
-use mathlib.Core.Path.{◌≡◌, refl, sym, ap, ◌∙◌, subst}
-use mathlib.Core.Bool.{Bool, true, false, cond}
-use mathlib.Core.List.{List, ◌++◌}
-use mathlib.Core.Logic.{◌⊎◌, inl, inr}
-use native.Mathlib.Omega.{arith}
-use lib.Dec.{leb}
-use lib.ListN.{length, take, drop, length-take, length-drop, length-append}
-use lib.Seq.{take_at}
-use borrow.Author.Tests.{leb-true}
+use Rattle.std.proofs.Common.{ℕ, zero, suc, ◌+◌, ◌≤◌, ◌≡◌, refl, sym, ap, ◌∙◌, subst, Bool, true, false, cond, Result, Ok, Err, List, ◌++◌, arith, leb, length, take, drop, length-take, length-drop, length-append, take_at, leb-true}
 use Rattle.model.specs.State.{St}
 use Rattle.model.specs.Table.{Table}
 use Rattle.texts.specs.Books.{Agent}
@@ -24,14 +15,14 @@ use Rattle.answers.specs.Printing.{Written, answer_written}
 use Rattle.answers.specs.Text.{answer_text}
 use Rattle.answer.specs.Called.{Told, number, lines, end_told, Called, given, fitted, called}
 use Rattle.answer.specs.Called as Calls
-use Rattle.answer.specs.Main.{told-once}
-use Rattle.answer.specs.declared.EndAnswer.{EndAnswer}
-use Rattle.answer.specs.declared.EndAnswer.TheVariants.{Unsound, Waits, Long, Read}
+use Rattle.parts.specs.Faults.{fault_number}
+use Rattle.parts.specs.declared.faults.Fault.{Fault}
+use Rattle.answer.specs.declared.End.{End}
 use Rattle.printing.specs.Puts.{Puts, far}
 use Rattle.report.specs.Begun.{Begun}
 use Rattle.report.specs.Firsts.{word_answer, refusal}
 use Rattle.report.specs.Firsts as First
-use Rattle.report.specs.Stores.{puts_then}
+use Rattle.printing.proofs.Stores.{puts_then}
 use Rattle.evaluation.specs.Evaluated.{output_max, ending}
 use Rattle.evaluation.specs.Printed.{Printed, Endable}
 use Rattle.evaluation.proofs.Runs.{begun-printed}
@@ -45,36 +36,36 @@ module _ (lines : List ℕ) (h : length lines ≤ output_max) where
   part-fits a x i p bs u u' c b =
       omega (arith, b.within, ap length c, length-take x (drop i lines), length-drop i lines, h)
 
-  pub read_way : (made n k m l a r : ℕ) (p u u₁ u₂ : List ℕ) → p ≡ take l (drop 0 lines)
-      → Begun (First.ended made n k m) u a u₁ → Puts p a u₁ r u₂
-      → Printed (First.ended made n k m ++ take l lines) u r u₂
-  read_way made n k m l a r p u u₁ u₂ c b t =
+  pub read_way : (made a r : ℕ) (e : End) (p u u₁ u₂ : List ℕ) → p ≡ take e.length (drop 0 lines)
+      → Begun (First.ended made e.loops e.stuck e.knot) u a u₁ → Puts p a u₁ r u₂
+      → Printed (First.ended made e.loops e.stuck e.knot ++ take e.length lines) u r u₂
+  read_way made a r e p u u₁ u₂ c b t =
       record {
-        puts = subst (λ x. Puts (First.ended made n k m ++ x) 0 u r u₂) c (puts_then b.puts t);
-        within = omega (arith, b.within, t.place, ap length c, length-take l lines, h);
+        puts = subst (λ x. Puts (First.ended made e.loops e.stuck e.knot ++ x) 0 u r u₂) c (puts_then b.puts t);
+        within = omega (arith, b.within, t.place, ap length c, length-take e.length lines, h);
       }
 
 -- What a call that reads an end has found: the lines W of a state s, in an output that was o and is o'.
-record Found (s : St) (W : Written) (o o' : List ℕ) (l n k m : ℕ) : Type 0 where
+record Found (s : St) (W : Written) (o o' : List ℕ) (e : End) : Type 0 where
   fits : leb (length W.bytes) output_max ≡ true
   low : length W.bytes ≤ output_max
-  size : l ≡ length W.bytes
-  loops : n ≡ s.loops
-  stuck : k ≡ s.stuck.used
-  knot : m ≡ W.after.left
+  size : e.length ≡ length W.bytes
+  loops : e.loops ≡ s.loops
+  stuck : e.stuck ≡ s.stuck.used
+  knot : e.knot ≡ W.after.left
   lines : o' ≡ W.bytes ++ drop (length W.bytes) o
 
-module _ (s : St) (W : Written) (o o' : List ℕ) (long : length o ≡ output_max) (g : EndAnswer) where
-  found : given (end_told g) o' ≡ fitted s W o → (l n k m : ℕ) → g ≡ Read l n k m → Found s W o o' l n k m
+module _ (s : St) (W : Written) (o o' : List ℕ) (long : length o ≡ output_max) where
+  abbrev fits : Called
+  fits = given (lines (length W.bytes) s.loops s.stuck.used W.after.left) (W.bytes ++ drop (length W.bytes) o)
+
+  found : (d : End) → given (end_told (Ok d)) o' ≡ fitted s W o → Found s W o o' d
   unfolding fitted
-  found e l n k m q = go (leb (length W.bytes) (length o)) refl e
+  found d e = go (leb (length W.bytes) (length o)) refl e
     where
-      go : (t : Bool) → leb (length W.bytes) (length o) ≡ t
-          → given (end_told g) o'
-          ≡ cond t (given (lines (length W.bytes) s.loops s.stuck.used W.after.left) (W.bytes ++ drop (length W.bytes) o)) (given (number 15) o)
-          → Found s W o o' l n k m
+      go : (t : Bool) → leb (length W.bytes) (length o) ≡ t → given (end_told (Ok d)) o' ≡ cond t fits (given (number 15) o) → Found s W o o' d
       go true c e =
-          let a = told-once g (Read (length W.bytes) s.loops s.stuck.used W.after.left) (ap (λ x. x.told) e) in
+          let a : end_told (Ok d) ≡ lines (length W.bytes) s.loops s.stuck.used W.after.left = ap (λ x. x.told) e in
           record {
             fits = ap (leb (length W.bytes)) (sym long) ∙ c;
             low = leb-true (length W.bytes) output_max (ap (leb (length W.bytes)) (sym long) ∙ c);
@@ -84,41 +75,28 @@ module _ (s : St) (W : Written) (o o' : List ℕ) (long : length o ≡ output_ma
             knot = cc;
             lines = ap (λ x. x.out) e;
           }
-      go false c e = let a = told-once g Long (ap (λ x. x.told) e) in impossible (cc)
+      go false c e = let a : end_told (Ok d) ≡ number 15 = ap (λ x. x.told) e in impossible (cc)
 
-  found-fit : {l n k m : ℕ} → Found s W o o' l n k m → length o' ≤ output_max
+  found-fit : {d : End} → Found s W o o' d → length o' ≤ output_max
   found-fit f =
       omega (arith, ap length f.lines, length-append W.bytes (drop (length W.bytes) o), length-drop (length W.bytes) o, f.low, long)
 
-  too_long : given (end_told g) o' ≡ fitted s W o → g ≡ Long → leb (length W.bytes) output_max ≡ false
-  unfolding fitted
-  too_long e q = go (leb (length W.bytes) (length o)) refl e
-    where
-      go : (t : Bool) → leb (length W.bytes) (length o) ≡ t
-          → given (end_told g) o'
-          ≡ cond t (given (lines (length W.bytes) s.loops s.stuck.used W.after.left) (W.bytes ++ drop (length W.bytes) o)) (given (number 15) o)
-          → leb (length W.bytes) output_max ≡ false
-      go true c e =
-          let a = told-once g (Read (length W.bytes) s.loops s.stuck.used W.after.left) (ap (λ x. x.told) e) in
-          impossible (cc)
-      go false c e = ap (leb (length W.bytes)) (sym long) ∙ c
+  -- It is refused for nothing but a long answer.
+  record Long (f : Fault) : Type 0 where
+    number_is : fault_number f ≡ 15
+    longer : leb (length W.bytes) output_max ≡ false
 
-  no_other : given (end_told g) o' ≡ fitted s W o → (g ≡ Unsound) ⊎ (g ≡ Waits) → {A : Type 0} → A
+  too_long : (f : Fault) → given (end_told (Err f)) o' ≡ fitted s W o → Long f
   unfolding fitted
-  no_other e q {A} = go (leb (length W.bytes) (length o)) e q
+  too_long f e = go (leb (length W.bytes) (length o)) refl e
     where
-      go : (t : Bool)
-          → given (end_told g) o'
-          ≡ cond t (given (lines (length W.bytes) s.loops s.stuck.used W.after.left) (W.bytes ++ drop (length W.bytes) o)) (given (number 15) o)
-          → (g ≡ Unsound) ⊎ (g ≡ Waits) → A
-      go true e (inl q) =
-          let a = told-once g (Read (length W.bytes) s.loops s.stuck.used W.after.left) (ap (λ x. x.told) e) in impossible (cc)
-      go true e (inr q) =
-          let a = told-once g (Read (length W.bytes) s.loops s.stuck.used W.after.left) (ap (λ x. x.told) e) in impossible (cc)
-      go false e (inl q) =
-          let a = told-once g Long (ap (λ x. x.told) e) in impossible (cc)
-      go false e (inr q) =
-          let a = told-once g Long (ap (λ x. x.told) e) in impossible (cc)
+      go : (t : Bool) → leb (length W.bytes) (length o) ≡ t → given (end_told (Err f)) o' ≡ cond t fits (given (number 15) o) → Long f
+      go true c e =
+          let a : number (fault_number f) ≡ lines (length W.bytes) s.loops s.stuck.used W.after.left = ap (λ x. x.told) e in
+          impossible (cc)
+      go false c e =
+          let a : number (fault_number f) ≡ number 15 = ap (λ x. x.told) e in
+          record { number_is = cc; longer = ap (leb (length W.bytes)) (sym long) ∙ c }
 
 -- The answer of a state has its loops and its stuck pairs.
 loops_of : (T : Table) (s : St) → s.loops ≡ (state_answer T s).loops
@@ -135,7 +113,7 @@ ending_is : (ags : List Agent) (made : ℕ) (A : Answer) (n k m : ℕ) (p : List
 unfolding ending
 ending_is ags made A n k m p f a b c d = rw (f, a, b, c, d)
 
-module _ (w v o o' : List ℕ) (h : Endable w v) (long : length o ≡ output_max) (g : EndAnswer) (e : given (end_told g) o' ≡ called w v o) where
+module _ (w v o o' : List ℕ) (h : Endable w v) (long : length o ≡ output_max) (g : Result End Fault) (e : given (end_told g) o' ≡ called w v o) where
   called_is : called w v o ≡ fitted (view v) (answer_written (agents_in w) (under w) (view v)) o
   unfolding called Calls.ended
   called_is = where_sound w v _ _ h.sound ∙ go (view v).waiting.used h.waits
@@ -158,20 +136,22 @@ module _ (w v o o' : List ℕ) (h : Endable w v) (long : length o ≡ output_max
   knot_is : (answer_written (agents_in w) (under w) (view v)).after.left ≡ (state_answer (under w) (view v)).knot
   knot_is = (bytes-printed (sound_table_lem h.sound) (agents_in w) (sound-state h.sound) h.waits).1
 
-  -- The lines after the first, by the first l bytes of what the call left.
-  module _ (l n k m : ℕ) (q : g ≡ Read l n k m) where
-    here : Found (view v) (answer_written (agents_in w) (under w) (view v)) o o' l n k m
-    here = found (view v) (answer_written (agents_in w) (under w) (view v)) o o' long g fitted_is l n k m q
+  -- The lines after the first, by the first bytes of what the call left.
+  module _ (d : End) (q : g ≡ Ok d) where
+    here : Found (view v) (answer_written (agents_in w) (under w) (view v)) o o' d
+    here =
+        found (view v) (answer_written (agents_in w) (under w) (view v)) o o' long d (ap (λ x. given (end_told x) o') (sym q) ∙ fitted_is)
 
-    part_is : take l o' ≡ answer_text (agents_in w) (state_answer (under w) (view v))
+    part_is : take d.length o' ≡ answer_text (agents_in w) (state_answer (under w) (view v))
     part_is = ap (λ x. take x o') here.size ∙ ap (take (length W)) here.lines ∙ take_at W _ (length W) refl ∙ text_is
       where
         W : List ℕ
         W = (answer_written (agents_in w) (under w) (view v)).bytes
 
-    whole : (made : ℕ) → ending (agents_in w) made (state_answer (under w) (view v)) ≡ First.ended made n k m ++ take l o'
+    whole : (made : ℕ)
+        → ending (agents_in w) made (state_answer (under w) (view v)) ≡ First.ended made d.loops d.stuck d.knot ++ take d.length o'
     whole made =
-        ending_is (agents_in w) made (state_answer (under w) (view v)) n k m (take l o')
+        ending_is (agents_in w) made (state_answer (under w) (view v)) d.loops d.stuck d.knot (take d.length o')
         (ap (λ x. leb (length x) output_max) (sym text_is) ∙ here.fits)
         (here.loops ∙ loops_of (under w) (view v))
         (here.stuck ∙ stuck_of (under w) (view v))
@@ -179,24 +159,16 @@ module _ (w v o o' : List ℕ) (h : Endable w v) (long : length o ≡ output_max
         part_is
 
     pub lines_fit : length o' ≤ output_max
-    lines_fit = found-fit (view v) (answer_written (agents_in w) (under w) (view v)) o o' long g here
+    lines_fit = found-fit (view v) (answer_written (agents_in w) (under w) (view v)) o o' long here
 
-    pub end_read : (made r : ℕ) (u u₁ : List ℕ) → Printed (First.ended made n k m ++ take l o') u r u₁
+    pub end_read : (made r : ℕ) (u u₁ : List ℕ) → Printed (First.ended made d.loops d.stuck d.knot ++ take d.length o') u r u₁
         → Printed (ending (agents_in w) made (state_answer (under w) (view v))) u r u₁
     end_read made r u u₁ p = subst (λ x. Printed x u r u₁) (sym (whole made)) p
 
-  pub end_long : (made r : ℕ) (u u₁ : List ℕ) → g ≡ Long → Begun (refusal word_answer 15 0) u r u₁
+  pub end_long : (made n₀ n r : ℕ) (u u₁ : List ℕ) (f : Fault) → g ≡ Err f → n₀ ≡ fault_number f → n ≡ n₀ → Begun (refusal word_answer n 0) u r u₁
       → Printed (ending (agents_in w) made (state_answer (under w) (view v))) u r u₁
   unfolding ending
-  end_long made r u u₁ q b =
-      let f = too_long (view v) (answer_written (agents_in w) (under w) (view v)) o o' long g fitted_is q in
-      let t = ap (λ x. leb (length x) output_max) (sym text_is) ∙ f in
-      rw t (begun-printed b)
-
-  pub end_unsound : (bs u u₁ : List ℕ) (r : ℕ) → g ≡ Unsound → Printed bs u r u₁
-  end_unsound bs u u₁ r q =
-      no_other (view v) (answer_written (agents_in w) (under w) (view v)) o o' long g fitted_is (inl q)
-
-  pub end_waits : (bs u u₁ : List ℕ) (r : ℕ) → g ≡ Waits → Printed bs u r u₁
-  end_waits bs u u₁ r q =
-      no_other (view v) (answer_written (agents_in w) (under w) (view v)) o o' long g fitted_is (inr q)
+  end_long made n₀ n r u u₁ f q y z b =
+      let l = too_long (view v) (answer_written (agents_in w) (under w) (view v)) o o' long f (ap (λ x. given (end_told x) o') (sym q) ∙ fitted_is) in
+      let t = ap (λ x. leb (length x) output_max) (sym text_is) ∙ l.longer in
+      rw t (begun-printed (subst (λ m. Begun (refusal word_answer m 0) u r u₁) (z ∙ y ∙ l.number_is) b))

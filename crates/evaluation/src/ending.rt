@@ -11,10 +11,11 @@ ghost use Rattle.evaluation.specs.Evaluated.{budget, output_max, ending, running
 ghost use Rattle.evaluation.specs.Printed.{Printed, Endable};
 
 use crate::sizes::Output;
-use answer::{EndAnswer, read_answer};
-use machine::calls::{RunAnswer, run};
+use answer::{End, read_answer};
+use machine::calls::run;
+use machine::outcome::Stop;
 use parts::Limits;
-use report::fields::put_bytes;
+use printing::leaves::put_bytes;
 use report::firsts::{put_ended, put_refusal, put_stopped};
 use state::loops;
 use terms::words::part;
@@ -25,31 +26,22 @@ fn no_lines() -> [u8; Output::LINES]
     [0u8; Output::LINES]
 }
 
-// What is printed of an answer that was read: the first line, and the lines after it, which take so many bytes.
-fn print_read(
-    out: &mut [u8],
-    lines: &[u8],
-    size: usize,
-    made: u32,
-    loops: u32,
-    stuck: u16,
-    knot: u16,
-) -> usize
+// What is printed of an answer that was read: the first line, and the lines after it.
+fn print_read(out: &mut [u8], lines: &[u8], made: u32, end: End) -> usize
     requires { length lines.now ≤ output_max }
-    ensures { Printed (ended made loops stuck knot ++ take size lines.now) out.old result out.new }
+    ensures { Printed (ended made end.loops end.stuck end.knot ++ take end.length lines.now) out.old result out.new }
 {
     let at = put_ended(
         out,
         made as usize,
-        loops as usize,
-        stuck as usize,
-        knot as usize,
+        end.loops as usize,
+        usize::from(end.stuck),
+        usize::from(end.knot),
     );
-    put_bytes(out, at, part(lines, 0, size))
+    put_bytes(out, at, part(lines, 0, end.length))
 }
 
-// What is printed of a state in which nothing waits, after so many interactions. The refusals for an unsound state and for equations that wait
-// can't occur here.
+// What is printed of a state in which nothing waits, after so many interactions. Of the refusals only that for a long answer can occur here.
 fn print_end(
     table: &[u8; Limits::TABLE],
     state: &[u16; Limits::STATE],
@@ -62,15 +54,8 @@ fn print_end(
 {
     let mut lines = no_lines();
     match read_answer(table, state, &mut lines) {
-        EndAnswer::Read {
-            length,
-            loops,
-            stuck,
-            knot,
-        } => print_read(out, &lines, length, made, loops, stuck, knot),
-        EndAnswer::Long => put_refusal(out, b"answer", 15, 0),
-        EndAnswer::Unsound => 0,
-        EndAnswer::Waits => 0,
+        Ok(end) => print_read(out, &lines, made, end),
+        Err(fault) => put_refusal(out, b"answer", usize::from(u8::from(fault)), 0),
     }
 }
 
@@ -85,10 +70,11 @@ pub fn print_run(
         out.old result out.new }
 {
     match run(table, state, Output::BUDGET) {
-        RunAnswer::Ended(n) => print_end(table, state, out, n),
-        RunAnswer::Paused(n) => put_stopped(out, b"paused", n as usize, loops(state) as usize),
-        RunAnswer::NoRoom(n) => put_stopped(out, b"noroom", n as usize, loops(state) as usize),
-        RunAnswer::Unsound => 0,
-        RunAnswer::TooMuch => 0,
+        Ok(ran) => match ran.stop {
+            Stop::Ended => print_end(table, state, out, ran.made),
+            Stop::Paused => put_stopped(out, b"paused", ran.made as usize, loops(state) as usize),
+            Stop::NoRoom => put_stopped(out, b"noroom", ran.made as usize, loops(state) as usize),
+        },
+        Err(_) => 0,
     }
 }

@@ -11,10 +11,10 @@ ghost use Rattle.evaluation.specs.Evaluated.{output_size, net_printed, evaluated
 ghost use Rattle.evaluation.specs.Printed.{Printed};
 
 use ending::print_run;
-use nets::{NetAnswer, read_net};
+use nets::read_net;
 use parts::Limits;
 use report::firsts::put_refusal;
-use rules::{RulesAnswer, read_rules};
+use rules::read_rules;
 use sizes::Output;
 use state::empty;
 use table::writing::empty_table;
@@ -30,19 +30,20 @@ fn print_net(table: &[u8; Limits::TABLE], net: &[u8], out: &mut [u8]) -> usize
 {
     let mut state = empty();
     match read_net(net, table, &mut state) {
-        NetAnswer::Refused { number, line } => put_refusal(out, b"net", number as usize, line),
-        NetAnswer::Accepted => print_run(table, &mut state, out),
+        Ok(()) => print_run(table, &mut state, out),
+        Err(r) => put_refusal(out, b"net", usize::from(u8::from(r.fault)), r.line),
     }
 }
 
 // What is printed of both texts. If the rules are refused, the net text is not looked at.
+// Of the form of `print_net`: each goes on where a reader of its own accepts, so they differ in more than a word.
 fn print_both(rules: &[u8], net: &[u8], out: &mut [u8]) -> usize
     ensures { Printed (evaluated rules.now net.now) out.old result out.new }
 {
     let mut table = empty_table();
     match read_rules(rules, &mut table) {
-        RulesAnswer::Refused { number, line } => put_refusal(out, b"rules", number as usize, line),
-        RulesAnswer::Accepted => print_net(&table, net, out),
+        Ok(()) => print_net(&table, net, out),
+        Err(r) => put_refusal(out, b"rules", usize::from(u8::from(r.fault)), r.line),
     }
 }
 

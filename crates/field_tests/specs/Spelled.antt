@@ -1,14 +1,10 @@
 -- The flat spelling pass by places: where a field stops to be the spelling of a term.
-use Rattle.std.specs.Prelude.{ℕ, suc, Bool, true, false, cond, List, [], ◌∷◌}
+use Rattle.std.specs.Prelude.{ℕ, suc, Bool, true, false, cond, List, [], ◌∷◌, Result, Ok, Err}
 use Rattle.std.proofs.Math.Option.{Option, none, some}
-use Rattle.texts.specs.Scan.{want, shut, lost}
-use Rattle.texts.specs.Scan.{word}
-use Rattle.texts.specs.Scan.{next, scan, done}
+use Rattle.texts.specs.Scan.{want, word, shut, lost, next, scan, done}
 use Rattle.texts.specs.Scan as Flat
 use Rattle.field_tests.specs.declared.spelling.Scan.{Scan}
 use Rattle.field_tests.specs.declared.spelling.Scan.TheVariants.{Want, Word, Shut, Lost}
-use Rattle.field_tests.specs.declared.spelling.Spelling.{Spelling}
-use Rattle.field_tests.specs.declared.spelling.Spelling.TheVariants.{Right, Wrong}
 
 -- where the code's pass stands
 abbrev pub plain : Scan → Flat.Scan
@@ -39,6 +35,7 @@ lost_at q (b ∷ bs) = cond (is_lost (next q b)) 0 (suc (lost_at (next q b) bs))
 unfoldable pub misspelt_at : List ℕ → Option ℕ
 misspelt_at l = cond (done (scan (want 0) l)) none (some (lost_at (want 0) l))
 
-abbrev pub wrong_at : Spelling → Option ℕ
-wrong_at Right = none
-wrong_at (Wrong n) = some n
+-- the place that the code answers
+abbrev pub wrong_at : {A : Type 0} → Result A ℕ → Option ℕ
+wrong_at (Ok a) = none
+wrong_at (Err n) = some n

@@ -8,6 +8,7 @@ use parts::Limits;
 use scan::bytes::word_byte;
 
 // Whether a word is longer than an identifier may be.
+#[tactic(auto, unfolding(texts::specs::RuleText::is_too_long))]
 pub fn too_long(w: &[u8]) -> bool
     ensures { result ≡ is_too_long w.now }
 {
@@ -15,44 +16,33 @@ pub fn too_long(w: &[u8]) -> bool
 }
 
 // The brackets open after a byte.
+#[tactic(auto, unfolding(texts::specs::Walk::depth))]
 fn depth(deep: usize, b: u8) -> usize
     requires { deep < 18446744073709551615 }
     ensures { result ≡ Walk.depth deep b }
 {
-    if b == b'(' {
-        return deep + 1;
+    match b {
+        b'(' => deep + 1,
+        b')' => deep.saturating_sub(1),
+        _ => deep,
     }
-    if b == b')' {
-        if deep == 0 {
-            return 0;
-        }
-        return deep - 1;
-    }
-    deep
 }
 
 // Where the identifier begins that goes on after the byte b at i, if any does.
+#[tactic(auto, unfolding(crate::specs::Sized::begun))]
 fn begun(start: usize, i: usize, b: u8) -> usize
     requires { i < 18446744073709551615 }
     ensures { result ≡ Sized.begun start i b }
 {
-    if word_byte(b) {
-        return start;
-    }
-    i + 1
+    if word_byte(b) { start } else { i + 1 }
 }
 
 // Whether a byte is of an identifier inside too many brackets, or of one that has its full length before it.
+#[tactic(auto, unfolding(crate::specs::Sized::passes))]
 fn passes(deep: usize, n: usize, b: u8) -> bool
     ensures { result ≡ Sized.passes deep n b }
 {
-    if word_byte(b) {
-        if Limits::LEVEL <= deep {
-            return true;
-        }
-        return Limits::IDENTIFIER <= n;
-    }
-    false
+    word_byte(b) && (Limits::LEVEL <= deep || Limits::IDENTIFIER <= n)
 }
 
 // Where the first identifier begins that is too long or inside too many brackets, or the field's length.
@@ -61,15 +51,12 @@ pub fn first_big(field: &[u8]) -> usize
 {
     let mut deep = 0;
     let mut start = 0;
-    let mut i = 0;
-    while i < field.len() {
-        let b = field[i];
-        if passes(deep, i - start, b) {
+    for (i, b) in field.iter().enumerate() {
+        if passes(deep, i - start, *b) {
             return start;
         }
-        start = begun(start, i, b);
-        deep = depth(deep, b);
-        i += 1;
+        start = begun(start, i, *b);
+        deep = depth(deep, *b);
     }
-    i
+    field.len()
 }

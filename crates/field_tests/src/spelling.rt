@@ -15,99 +15,73 @@ pub enum Scan {
     Lost,
 }
 
-// The field spells a term; or the place of the first byte that no term has there, which is the length where the field
-// ends too early.
-#[derive(Clone, Copy)]
-pub enum Spelling {
-    Right,
-    Wrong(usize),
-}
-
 // After a term, with `deep` brackets open.
+#[tactic(auto, unfolding(texts::specs::Scan::after_term))]
 fn after_term(deep: usize, b: u8) -> Scan
     ensures { plain result ≡ Flat.after_term deep b }
 {
-    if deep == 0 {
-        return Scan::Lost;
+    match b {
+        b',' if 0 < deep => Scan::Want(deep),
+        b')' if 0 < deep => Scan::Shut(deep - 1),
+        _ => Scan::Lost,
     }
-    if b == b',' {
-        return Scan::Want(deep);
-    }
-    if b == b')' {
-        return Scan::Shut(deep - 1);
-    }
-    Scan::Lost
 }
 
 // In an identifier, with `deep` brackets open, of which there are never more than bytes passed.
+#[tactic(auto, unfolding(texts::specs::Scan::next))]
 fn in_word(deep: usize, b: u8) -> Scan
     requires { deep < 18446744073709551615 }
     ensures { plain result ≡ Flat.next (Flat.Scan.word deep) b }
 {
     if word_byte(b) {
-        return Scan::Word(deep);
+        Scan::Word(deep)
+    } else if b == b'(' {
+        Scan::Want(deep + 1)
+    } else {
+        after_term(deep, b)
     }
-    if b == b'(' {
-        return Scan::Want(deep + 1);
-    }
-    after_term(deep, b)
 }
 
 // One byte more.
+#[tactic(auto, unfolding(texts::specs::Scan::next, scan::specs::Words::heads))]
 fn next(s: Scan, b: u8) -> Scan
     requires { open_of s < 18446744073709551615 }
     ensures { plain result ≡ Flat.next (plain s) b }
 {
     match s {
-        Scan::Want(deep) => {
-            if head_byte(b) {
-                return Scan::Word(deep);
-            }
-            Scan::Lost
-        }
+        Scan::Want(deep) if head_byte(b) => Scan::Word(deep),
         Scan::Word(deep) => in_word(deep, b),
         Scan::Shut(deep) => after_term(deep, b),
-        Scan::Lost => Scan::Lost,
+        Scan::Want(_) | Scan::Lost => Scan::Lost,
     }
 }
 
+#[tactic(auto, unfolding(crate::specs::Spelled::is_lost))]
 fn lost(s: Scan) -> bool
     ensures { result ≡ is_lost (plain s) }
 {
-    match s {
-        Scan::Want(_) => false,
-        Scan::Word(_) => false,
-        Scan::Shut(_) => false,
-        Scan::Lost => true,
-    }
+    matches!(s, Scan::Lost)
 }
 
 // A whole term, and no bracket open.
+#[tactic(auto, unfolding(texts::specs::Scan::done))]
 fn done(s: Scan) -> bool
     ensures { result ≡ Flat.done (plain s) }
 {
-    match s {
-        Scan::Want(_) => false,
-        Scan::Word(deep) => deep == 0,
-        Scan::Shut(deep) => deep == 0,
-        Scan::Lost => false,
-    }
+    matches!(s, Scan::Word(0) | Scan::Shut(0))
 }
 
-pub fn spelled(field: &[u8]) -> Spelling
+// Whether the field spells a term; else the place of the first byte that no term has there, which is the length where
+// the field ends too early.
+pub fn spelled(field: &[u8]) -> Result<(), usize>
     ensures { wrong_at result ≡ misspelt_at field.now }
 {
     let mut s = Scan::Want(0);
-    let mut i = 0;
-    while i < field.len() {
-        s = next(s, field[i]);
+    for (i, b) in field.iter().enumerate() {
+        s = next(s, *b);
         if lost(s) {
-            return Spelling::Wrong(i);
+            return Err(i);
         }
-        i += 1;
     }
-    if done(s) {
-        return Spelling::Right;
-    }
-    Spelling::Wrong(i)
+    if done(s) { Ok(()) } else { Err(field.len()) }
 }

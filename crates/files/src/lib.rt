@@ -29,6 +29,7 @@ pub fn read_full<R: Read>(input: &mut R, text: &mut [u8]) -> usize
     ensures bytes { Consumes (R.remaining input.old) (R.remaining input.new) (take result text.new) }
 {
     let mut done = 0;
+    // Each read goes on where the last one ended, by as many bytes as it gave, so this is no `for`.
     while done < text.len() {
         match input.read(&mut text[done..]) {
             Ok(0) => break,

@@ -13,7 +13,7 @@ use Rattle.firing.specs.Taken.{taken_on, entered, Takeable, Passed, name_code, c
 use Rattle.firing.specs.Fires.{RoomFor, taken_both, entered_both}
 
 module _ (w : List ℕ) (i : ℕ) (k : Kept) (s : St) (f : RoomFor w i s) (r : Right k s) where
-  pub names_takeable : Takeable Names (names_of w i) k.lowname s
+  pub names_takeable : Takeable Names (names_of w i) k.low_name s
   names_takeable = record { whole = f.names; room = f.names_room; fits = r.names_fit; below = r.names_taken }
 
   module _ (y : St) (ey : y ≡ taken_on Names (λ j. 1) (names_of w i) s) where
@@ -21,7 +21,7 @@ module _ (w : List ℕ) (i : ℕ) (k : Kept) (s : St) (f : RoomFor w i s) (r : R
     unfolding taken_on
     same_symbols = ap (λ t. t.symbols) ey
 
-    pub cells_takeable : Takeable Symbols (cells_of w i) k.lowcell y
+    pub cells_takeable : Takeable Symbols (cells_of w i) k.low_cell y
     cells_takeable =
         record {
           whole = rw same_symbols f.symbols;
@@ -44,10 +44,10 @@ module _ (w : List ℕ) (i : ℕ) (k : Kept) (s : St) (f : RoomFor w i s) (r : R
       unfolding taken_on
       same_names = ap (λ t. t.names) ez
 
-      pub both_right : (lowcell lowname c n x m : ℕ) → Passed Names (names_of w i) lowname s y → Passed Symbols (cells_of w i) lowcell y z
+      pub both_right : (low_cell low_name c n x m : ℕ) → Passed Names (names_of w i) low_name s y → Passed Symbols (cells_of w i) low_cell y z
           → x ≡ c → c ≡ cells_of w i → m ≡ n → n ≡ names_of w i
-          → Right (record { cells = k.cells + x; names = k.names + m; lowcell = lowcell; lowname = lowname }) z
-      both_right lowcell lowname c n x m pn pc ex ec em en =
+          → Right (record { cells = k.cells + x; names = k.names + m; low_cell = low_cell; low_name = low_name }) z
+      both_right low_cell low_name c n x m pn pc ex ec em en =
           record {
             cells = omega (arith, r.cells, pc.count, ap used same_symbols);
             names = rw same_names (omega (arith, r.names, pn.count));

@@ -9,6 +9,7 @@ use Rattle.parts.specs.Sides.{side}
 use Rattle.model.specs.State.{St, st, used, lowest, zeros}
 use Rattle.model.specs.Step.{fired, puts, zero_cell, inst_cell, inst_pair, write_symbols, write_arguments, set_bare}
 use Rattle.model.specs.Step as Step
+use Rattle.model.specs.Stepped.{Room}
 use Rattle.model.proofs.Lowest.{all_free, as_many}
 use Rattle.kept.specs.Right.{Right}
 use Rattle.kept.specs.declared.Kept.{Kept}
@@ -16,9 +17,9 @@ use Rattle.state.specs.Moves.{freed}
 use Rattle.table.specs.Layout.{entry_of, entry_at}
 use Rattle.table.specs.Laws.Lists.{length-tab}
 use Rattle.firing.specs.Frames.{frame_size, four}
-use Rattle.firing.specs.Built.{CellsIn, equations_of, cells_of, names_of, argued_on, put_from}
+use Rattle.firing.specs.Built.{Ruled, CellsIn, equations_of, cells_of, names_of, argued_on, put_from}
 use Rattle.firing.specs.Taken.{taken_on, entered}
-use Rattle.firing.specs.Fires.{RoomFor, Firing, opened, taken_both, entered_both, built}
+use Rattle.firing.specs.Fires.{Pairing, RoomFor, opened, taken_both, entered_both, built}
 use Rattle.firing.proofs.Held.{quad-four, full, cell-number}
 use Rattle.firing.proofs.Meaning.{bare_is, symbols-are, arguments-are, body_is}
 use Rattle.firing.specs.Pairs.{first_inside, second-inside, emptied-size, emptied-used}
@@ -37,7 +38,7 @@ fresh-many : (w : List ℕ) (i : ℕ) → (entry_at w i).fresh ≡ names_of w i
 unfolding entry_of
 fresh-many w i = refl
 
-module _ (w : List ℕ) (i a b : ℕ) (k : Kept) (s : St) (f : Firing w i a b k s) where
+module _ (w : List ℕ) (i a b : ℕ) (s : St) (ruled : Ruled w i) (f : Pairing a b s) (room : Room (entry_at w i) s) where
   abbrev l₁ : List ℕ
   l₁ = Step.freed a b s.symbols
 
@@ -52,16 +53,16 @@ module _ (w : List ℕ) (i a b : ℕ) (k : Kept) (s : St) (f : Firing w i a b k 
   A = lowest 0 (cells_of w i) l₁
 
   size₁ : length l₁ ≡ cells_max
-  size₁ = emptied-size a b s f.pairing
+  size₁ = emptied-size a b s f
 
   used₁ : used l₁ + 2 ≡ used s.symbols
-  used₁ = emptied-used a b s f.pairing
+  used₁ = emptied-used a b s f
 
   names-many : length N ≡ names_of w i
-  names-many = as_many (names_of w i) s.names (omega (arith, f.room.1, fresh-many w i, f.pairing.names))
+  names-many = as_many (names_of w i) s.names (omega (arith, room.1, fresh-many w i, f.names))
 
   new_many : length A ≡ cells_of w i
-  new_many = as_many (cells_of w i) l₁ (omega (arith, f.room.0, cells-many w i, used₁, size₁))
+  new_many = as_many (cells_of w i) l₁ (omega (arith, room.0, cells-many w i, used₁, size₁))
 
   module _ (x : St) (ex : x ≡ freed b (freed a s)) where
     pub room_left : RoomFor w i x
@@ -69,14 +70,14 @@ module _ (w : List ℕ) (i a b : ℕ) (k : Kept) (s : St) (f : Firing w i a b k 
         rw (ex ∙ opened_is a b s)
         (record {
           symbols = size₁;
-          names = f.pairing.names;
-          cells_room = omega (arith, f.room.0, cells-many w i, used₁);
-          names_room = omega (arith, f.room.1, fresh-many w i);
+          names = f.names;
+          cells_room = omega (arith, room.0, cells-many w i, used₁);
+          names_room = omega (arith, room.1, fresh-many w i);
         })
 
     pub waits-fit : (z : St) → z ≡ taken_both w i x → z.waiting.used + equations_of w i ≤ waiting_max
     unfolding taken_both taken_on
-    waits-fit z ez = rw (ez, ex ∙ opened_is a b s) (omega (arith, f.room.2, body-many w i))
+    waits-fit z ez = rw (ez, ex ∙ opened_is a b s) (omega (arith, room.2, body-many w i))
 
     module _ (F₁ F : List ℕ) (e₁ : F₁ ≡ opened a b s (zeros frame_size)) (e₂ : F ≡ entered_both w i x F₁) where
       frame_is : F ≡ full (four a la) (four b la) N A
@@ -89,8 +90,8 @@ module _ (w : List ℕ) (i a b : ℕ) (k : Kept) (s : St) (f : Firing w i a b k 
             rw frame_is
             (omega (
               arith,
-              cell-number (four a la) (four b la) N A refl refl (omega (arith, names-many, f.ruled.names)) (omega
-                  (arith, new_many, f.ruled.cells)) m (omega (arith, new_many)),
+              cell-number (four a la) (four b la) N A refl refl (omega (arith, names-many, ruled.names)) (omega
+                  (arith, new_many, ruled.cells)) m (omega (arith, new_many)),
               (all_free (cells_of w i) l₁ m (omega (arith, new_many))).0,
               size₁,
             ));
@@ -120,8 +121,8 @@ module _ (w : List ℕ) (i a b : ℕ) (k : Kept) (s : St) (f : Firing w i a b k 
         model_is =
             ap₂
             (λ p q. after p q (lowest 0 (entry_at w i).fresh s.names) (lowest 0 (length (entry_at w i).cells) l₁))
-            (quad-four la a (omega (arith, first_inside a b s f.pairing, f.pairing.arguments)))
-            (quad-four la b (omega (arith, second-inside a b s f.pairing, f.pairing.arguments)))
+            (quad-four la a (omega (arith, first_inside a b s f, f.arguments)))
+            (quad-four la b (omega (arith, second-inside a b s f, f.arguments)))
             ∙ ap₂ (λ n m. after (four a la) (four b la) (lowest 0 n s.names) (lowest 0 m l₁)) (fresh-many w i) (cells-many w i)
 
         code_is : v ≡ after (four a la) (four b la) N A
@@ -130,9 +131,9 @@ module _ (w : List ℕ) (i a b : ℕ) (k : Kept) (s : St) (f : Firing w i a b k 
             rw (ev, ez, ex ∙ opened_is a b s, frame_is)
             (rw (
               bare_is N s.names 0,
-              symbols-are w i f.ruled (four a la) (four b la) N A refl refl names-many new_many l₁,
-              arguments-are w i f.ruled (four a la) (four b la) N A refl refl names-many new_many (zero_cell b (zero_cell a la)),
-              ← body_is w i f.ruled (four a la) (four b la) N A refl refl names-many new_many,
+              symbols-are w i ruled (four a la) (four b la) N A refl refl names-many new_many l₁,
+              arguments-are w i ruled (four a la) (four b la) N A refl refl names-many new_many (zero_cell b (zero_cell a la)),
+              ← body_is w i ruled (four a la) (four b la) N A refl refl names-many new_many,
             ))
 
         pub fire_way : v ≡ fired (entry_at w i) a b s

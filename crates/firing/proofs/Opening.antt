@@ -54,8 +54,8 @@ module _ (a b : ℕ) (s : St) (f : Pairing a b s) where
     pub two_used : 2 ≤ k.cells
     two_used = omega (arith, emptied-used a b s f, r.cells)
 
-    pub open_right : (s₁ s₂ : St) (low n : ℕ) → s₁ ≡ freed a s → s₂ ≡ freed b s₁ → n ≡ min a b → low ≡ min k.lowcell n
-        → Right (record { cells = k.cells - 2; names = k.names; lowcell = low; lowname = k.lowname }) s₂
+    pub open_right : (s₁ s₂ : St) (low n : ℕ) → s₁ ≡ freed a s → s₂ ≡ freed b s₁ → n ≡ min a b → low ≡ min k.low_cell n
+        → Right (record { cells = k.cells - 2; names = k.names; low_cell = low; low_name = k.low_name }) s₂
     open_right s₁ s₂ low n p q en el =
         rw (open_state a b s s₁ s₂ p q ∙ opened_is a b s)
         (record {

@@ -16,7 +16,7 @@ use Rattle.state.specs.declared.Part.TheVariants.{Symbols, Arguments, Names, Wai
 use Rattle.table.specs.Layout.{rule_row, symbol_of}
 use Rattle.firing.specs.Built.{Ruled, names_of, cells_of, symbol_word}
 use Rattle.firing.specs.Frames.{names_at, cells_at}
-use Rattle.firing.specs.Taken.{written, taken_on, entered, Takeable, Passed, name_code, cell_code}
+use Rattle.firing.specs.Taken.{written, taken_on, entered, Takeable, name_code, cell_code}
 use Rattle.firing.proofs.Lows.{first_free, taken-inside, lowest-taken, used-taken, below-taken}
 
 same_words : (p : Part) (s : St) → s ≡ with_words p (words p s) s
@@ -151,9 +151,6 @@ module _ (p : Part) (v c : ℕ → ℕ) (at n : ℕ) (s₀ s : St) (F₀ F : Lis
   unfolding entered
   take-frame = rw none_left at t.frame
 
-  take-passed : Passed p n low s₀ s
-  take-passed = record { count = omega (arith, t.count, t.high); fits = t.fits; below = t.below }
-
 -- The same of names, which are set bare, and of cells, which get their symbols; m is the count as the code has it.
 module _ (w : List ℕ) (k : ℕ) (s₀ s : St) (F₀ F : List ℕ) (low : ℕ) where
   pub names_none : Takeable Names (names_of w k) low s₀ → Taking Names (λ j. 1) name_code names_at (names_of w k) s₀ s₀ F₀ F₀ low 0
@@ -185,9 +182,6 @@ module _ (w : List ℕ) (k : ℕ) (s₀ s : St) (F₀ F : List ℕ) (low : ℕ) 
         pub names-frame : F ≡ entered Names names_at name_code (names_of w k) s₀ F₀
         names-frame = take-frame Names (λ j. 1) name_code names_at (names_of w k) s₀ s F₀ F low i t (omega arith)
 
-        pub names-passed : Passed Names (names_of w k) low s₀ s
-        names-passed = take-passed Names (λ j. 1) name_code names_at (names_of w k) s₀ s F₀ F low i t (omega arith)
-
     module _ (q : x ≡ cells_of w k) (t : Taking Symbols (symbol_word w k) cell_code cells_at (cells_of w k) s₀ s F₀ F low i) where
       pub cell_takeable : i < m → Takeable Symbols 1 low s
       cell_takeable h = take_one Symbols (symbol_word w k) cell_code cells_at (cells_of w k) s₀ s F₀ F low i t (omega arith)
@@ -210,39 +204,36 @@ module _ (w : List ℕ) (k : ℕ) (s₀ s : St) (F₀ F : List ℕ) (low : ℕ) 
         pub cells-frame : F ≡ entered Symbols cells_at cell_code (cells_of w k) s₀ F₀
         cells-frame = take-frame Symbols (symbol_word w k) cell_code cells_at (cells_of w k) s₀ s F₀ F low i t (omega arith)
 
-        pub cells-passed : Passed Symbols (cells_of w k) low s₀ s
-        cells-passed = take-passed Symbols (symbol_word w k) cell_code cells_at (cells_of w k) s₀ s F₀ F low i t (omega arith)
-
--- One number taken: y is the number found, and x is it as a word.
+-- One number taken: y is the number found.
 module _ (s : St) (low y : ℕ) where
   module _ (t : Takeable Names 1 low s) (q : y ≡ free_from low s.names) where
     pub name-short : Fits w16 y
     name-short = omega (arith, free-inside Names s low t)
 
-    pub name-inside : (x : ℕ) → x ≡ y → x < names_max
-    name-inside x e = omega (arith, free-inside Names s low t)
+    pub name-inside : y < names_max
+    name-inside = omega (arith, free-inside Names s low t)
 
-    pub name_doubled : (x : ℕ) → x ≡ y → Fits w16 (2 * x)
-    name_doubled x e = omega (arith, free-inside Names s low t)
+    pub name_doubled : Fits w16 (2 * y)
+    name_doubled = omega (arith, free-inside Names s low t)
 
-    pub name-past : (x : ℕ) → x ≡ y → Fits w16 (x + 1)
-    name-past x e = omega (arith, free-inside Names s low t)
+    pub name-past : Fits w16 (y + 1)
+    name-past = omega (arith, free-inside Names s low t)
 
   module _ (t : Takeable Symbols 1 low s) (q : y ≡ free_from low s.symbols) where
     pub cell-short : Fits w16 y
     cell-short = omega (arith, free-inside Symbols s low t)
 
-    pub cell-inside : (x : ℕ) → x ≡ y → x < cells_max
-    cell-inside x e = omega (arith, free-inside Symbols s low t)
+    pub cell-inside : y < cells_max
+    cell-inside = omega (arith, free-inside Symbols s low t)
 
-    pub cell_doubled : (x : ℕ) → x ≡ y → Fits w16 (2 * x)
-    cell_doubled x e = omega (arith, free-inside Symbols s low t)
+    pub cell_doubled : Fits w16 (2 * y)
+    cell_doubled = omega (arith, free-inside Symbols s low t)
 
-    pub cell-coded : (x : ℕ) → x ≡ y → Fits w16 (1 + 2 * x)
-    cell-coded x e = omega (arith, free-inside Symbols s low t)
+    pub cell-coded : Fits w16 (1 + 2 * y)
+    cell-coded = omega (arith, free-inside Symbols s low t)
 
-    pub cell-past : (x : ℕ) → x ≡ y → Fits w16 (x + 1)
-    cell-past x e = omega (arith, free-inside Symbols s low t)
+    pub cell-past : Fits w16 (y + 1)
+    cell-past = omega (arith, free-inside Symbols s low t)
 
 pub past_way : (x y f : ℕ) → x ≡ y → y ≡ f → x + 1 ≡ f + 1
 past_way x y f e q = omega arith

@@ -1,5 +1,6 @@
 -- The right side of a rule built in a state, as the code reads it from the rule's row and a frame.
 use Rattle.std.specs.Prelude.{List, map, ℕ, zero, suc, ◌+◌, ◌*◌, ◌<◌, ◌≤◌, length, get_or}
+use Rattle.std.specs.Coded.{le_prop}
 use Rattle.std.proofs.lemmas.List.Edits.{sets}
 use Rattle.parts.specs.Limits.{arity_max, symbols_max, rules_max, rule_equations_max, rule_cells_max, rule_names_max, cells_max, node_size}
 use Rattle.parts.specs.Sides.{Side, name, cell, Pair, ◌:=◌, side}
@@ -37,6 +38,10 @@ abbrev pub Inside : List ℕ → ℕ → Side → Type 0
 Inside w i (name z) = z < names_at + names_of w i
 Inside w i (cell m) = m < cells_of w i
 
+pub Inside-prop : (w : List ℕ) (i : ℕ) (s : Side) → IsProp (Inside w i s)
+Inside-prop w i (name z) = le_prop
+Inside-prop w i (cell m) = le_prop
+
 -- What reading rule i of a lent table asks of it.
 pub record Ruled (w : List ℕ) (i : ℕ) : Type 0 where
   pub number : i < rules_max
@@ -48,6 +53,10 @@ pub record Ruled (w : List ℕ) (i : ℕ) : Type 0 where
   pub symbols : (m : ℕ) → m < cells_of w i → symbol_of (rule_row w i) m < symbols_max
   pub sides : (j : ℕ) → j < equations_of w i → Inside w i (side (side_of w i (2 * j))) × Inside w i (side (side_of w i (1 + 2 * j)))
   pub arguments : (m j : ℕ) → m < cells_of w i → j < width_of w i m → Inside w i (side (argument_of w i m j))
+
+-- These facts have one proof at most, so a struct may hold them.
+pub Ruled-prop : (w : List ℕ) (i : ℕ) → IsProp (Ruled w i)
+Ruled-prop w i = hlevel (le_prop, Inside-prop)
 
 -- The word of the symbol of cell m.
 abbrev pub symbol_word : List ℕ → ℕ → ℕ → ℕ

@@ -3,12 +3,8 @@ use Rattle.std.specs.Prelude.{◌≡◌, List, ℕ, ◌+◌, ◌*◌, ◌<◌, �
 use Rattle.std.proofs.lemmas.List.Edits.{sets}
 use Rattle.parts.specs.Limits.{arity_max, cells_max, names_max}
 use Rattle.model.specs.State.{St, used}
-use Rattle.model.specs.Stepped.{Room}
-use Rattle.kept.specs.Right.{Right}
-use Rattle.kept.specs.declared.Kept.{Kept}
-use Rattle.table.specs.Layout.{entry_at}
 use Rattle.state.specs.declared.Part.TheVariants.{Symbols, Names}
-use Rattle.firing.specs.Built.{Ruled, equations_of, cells_of, names_of, symbol_word, argued_on, put_from}
+use Rattle.firing.specs.Built.{equations_of, cells_of, names_of, symbol_word, argued_on, put_from}
 use Rattle.firing.specs.Frames.{names_at, cells_at, four}
 use Rattle.firing.specs.Taken.{taken_on, entered, name_code, cell_code}
 
@@ -20,12 +16,6 @@ pub record Pairing (a b : ℕ) (s : St) : Type 0 where
   pub symbols : length s.symbols ≡ cells_max
   pub arguments : length s.arguments ≡ arity_max * cells_max
   pub names : length s.names ≡ names_max
-
-pub record Firing (w : List ℕ) (i a b : ℕ) (k : Kept) (s : St) : Type 0 where
-  pub ruled : Ruled w i
-  pub pairing : Pairing a b s
-  pub room : Room (entry_at w i) s
-  pub right : Right k s
 
 -- The arguments of both cells in a frame.
 unfoldable pub opened : ℕ → ℕ → St → List ℕ → List ℕ

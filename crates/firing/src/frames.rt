@@ -1,5 +1,5 @@
 // A frame holds, by number, the codes that the names and cells of a right side stand for.
-ghost use Rattle.std.specs.Prelude.{◌≡◌, ◌+◌, ◌<◌, ◌≤◌};
+ghost use Rattle.std.specs.Prelude.{◌≡◌, ◌<◌, ◌≤◌};
 ghost use Rattle.std.proofs.lemmas.List.Edits.{sets};
 ghost use Rattle.parts.specs.Limits.{arity_max, rule_cells_max, cells_max};
 ghost use Rattle.parts.specs.Sides.{side};
@@ -7,8 +7,7 @@ ghost use Rattle.state.specs.Layout.{view};
 ghost use Rattle.firing.specs.Frames.{frame_size, place, worth, cell_in, four};
 
 use crate::Frame;
-use parts::{CellNo, Limits, Side, decode};
-use table::reading::number_of;
+use parts::{CellNo, Limits, Side};
 
 // The arguments of a cell, entered from a place on.
 pub fn enter_arguments(
@@ -31,15 +30,9 @@ pub fn stands_for(frame: &[u16; Frame::SIZE], code: u8) -> u16
     requires { place (side code) < frame_size }
     ensures { result ≡ worth frame.now code }
 {
-    match decode(number_of(code)) {
-        Side::Name(x) => {
-            let i = x.0 as usize;
-            frame[i]
-        }
-        Side::Cell(c) => {
-            let i = c.0 as usize;
-            frame[Frame::CELLS_AT + i]
-        }
+    match Side::from(u16::from(code)) {
+        Side::Name(x) => frame[usize::from(x.0)],
+        Side::Cell(c) => frame[Frame::CELLS_AT + usize::from(c.0)],
     }
 }
 

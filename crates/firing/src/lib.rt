@@ -3,6 +3,7 @@
 
 use parts::Limits;
 
+pub mod lent_rule; // lent_rule.rt: a rule of a lent table that its test has passed
 pub mod frames; // frames.rt: what the names and cells of a right side stand for
 pub mod taking; // taking.rt: new names and new cells
 pub mod building; // building.rt: the arguments of the new cells, and the equations

@@ -1,10 +1,5 @@
 -- One law for each way out of the test.
-use mathlib.Core.Path.{◌≡◌, sym, ◌∙◌}
-use mathlib.Core.Bool.{Bool, true, false}
-use mathlib.Core.List.{List}
-use mathlib.Core.Logic.{◌↔◌}
-use Prim.Native.Nat.{ℕ}
-use native.Mathlib.Omega.{arith}
+use Rattle.std.proofs.Common.{◌≡◌, sym, ◌∙◌, Bool, true, false, List, ◌↔◌, ℕ, arith}
 use Rattle.model.specs.Test.{tested}
 use Rattle.model.proofs.Tested.{tested-sound}
 use Rattle.table.specs.Given.{Given}

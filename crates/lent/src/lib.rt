@@ -6,6 +6,7 @@ ghost use Rattle.lent.specs.Both.{BothSound};
 
 use crate::whole::state_sound;
 use parts::Limits;
+use sound::usable::{Lent, UsableTable};
 use table_test::whole::table_sound;
 
 pub mod whole; // whole.rt: all clauses of a sound state together
@@ -14,8 +15,9 @@ pub mod whole; // whole.rt: all clauses of a sound state together
 pub fn both_sound(table: &[u8; Limits::TABLE], state: &[u16; Limits::STATE]) -> bool
     ensures { (result ≡ true) ↔ BothSound table.now state.now }
 {
-    if table_sound(table) {
-        return state_sound(table, state);
-    }
-    false
+    table_sound(table)
+        && state_sound(Lent {
+            table: UsableTable { bytes: table },
+            state,
+        })
 }

@@ -6,101 +6,79 @@ ghost use Rattle.line_terms.specs.Arguments.{args_past, term_past, argued_by, fi
 
 use super::fields::field_end;
 use parts::Limits;
-use terms::words::{Found, byte_at, find_agent, part};
-
-// The place after what was passed; or some identifier has another number of arguments.
-#[derive(Clone, Copy)]
-pub enum Past {
-    At(usize),
-    Wrong,
-}
+use terms::Source;
+use terms::words::{byte_at, find_agent, part};
 
 // How many arguments the word from `at` to `end` takes: an agent its arity, a name none.
-fn takes_of(text: &[u8], at: usize, end: usize, agents: &[u8]) -> u16
+#[tactic(auto, using(crate::proofs::Arguing::takes_way))]
+fn takes_of(source: Source<'_>, at: usize, end: usize) -> u16
     requires { at ≤ end }
-    ensures { result ≡ takes (agents_of agents.now) (take (end - at) (drop at text.now)) }
+    ensures { result ≡ takes (agents_of source.entry.agents.now) (take (end - at) (drop at source.entry.text.now)) }
 {
-    let word = part(text, at, end - at);
-    match find_agent(agents, word) {
-        Found::Nothing => 0,
-        Found::Agent { symbol, arity } => arity,
-    }
+    let word = part(source.text, at, end - at);
+    find_agent(source.agents, word).map_or(0, |agent| agent.arity)
 }
 
-// A term of at most `levels` levels.
+// The place after a term of at most `levels` levels; or none, where an identifier has another number of arguments.
+// It stands beside `terms::read_term`: it writes no sheet, knows no limit on cells and names, and answers a place alone,
+// so a shared pair would take a trait with a sheet behind it, which is longer than these two.
+#[tactic(auto, using(crate::proofs::Arguing::term_laws))]
 #[cycle(pass_args_pass_term)]
-fn pass_term(text: &[u8], at: usize, levels: usize, agents: &[u8]) -> Past
-    ensures { result ≡ term_past text.now (agents_of agents.now) levels at }
+fn pass_term(source: Source<'_>, at: usize, levels: usize) -> Option<usize>
+    ensures { result ≡ term_past source.entry.text.now (agents_of source.entry.agents.now) levels at }
 {
     if levels == 0 {
-        return Past::Wrong;
+        return None;
     }
-    let end = scan::words::word_end(text, at);
-    let n = takes_of(text, at, end, agents);
-    let b = byte_at(text, end);
+    let end = scan::words::word_end(source.text, at);
+    let n = takes_of(source, at, end);
+    let open = byte_at(source.text, end) == b'(';
     if n == 0 {
-        if b == b'(' {
-            return Past::Wrong;
-        }
-        return Past::At(end);
+        return if open { None } else { Some(end) };
     }
-    if b == b'(' {
-        return pass_args(text, end + 1, levels - 1, n - 1, agents);
+    if !open {
+        return None;
     }
-    Past::Wrong
+    pass_args(source, end + 1, levels - 1, n - 1)
 }
 
 // An argument and so many more, parted by commas, and the bracket after them.
 #[cycle(pass_args_pass_term)]
-fn pass_args(text: &[u8], at: usize, levels: usize, more: u16, agents: &[u8]) -> Past
-    ensures { result ≡ args_past text.now (term_past text.now (agents_of agents.now) levels) more at }
+fn pass_args(source: Source<'_>, at: usize, levels: usize, more: u16) -> Option<usize>
+    ensures { result ≡ args_past source.entry.text.now (term_past source.entry.text.now (agents_of source.entry.agents.now) levels) more at }
 {
-    match pass_term(text, at, levels, agents) {
-        Past::Wrong => Past::Wrong,
-        Past::At(next) => {
-            let b = byte_at(text, next);
-            if more == 0 {
-                if b == b')' {
-                    return Past::At(next + 1);
-                }
-                return Past::Wrong;
-            }
-            if b == b',' {
-                return pass_args(text, next + 1, levels, more - 1, agents);
-            }
-            Past::Wrong
-        }
+    let next = pass_term(source, at, levels)?;
+    match byte_at(source.text, next) {
+        b')' if more == 0 => Some(next + 1),
+        b',' if more > 0 => pass_args(source, next + 1, levels, more - 1),
+        _ => None,
     }
 }
 
-// The same of the term that the field from `from` to `to` spells.
-pub fn argued(text: &[u8], from: usize, to: usize, agents: &[u8]) -> bool
-    ensures { result ≡ argued_by text.now (agents_of agents.now) from to }
+// Whether the same holds of the term that the field from `from` to `to` spells.
+#[tactic(auto, using(crate::proofs::Arguing::argued_way))]
+pub fn argued(source: Source<'_>, from: usize, to: usize) -> bool
+    ensures { result ≡ argued_by source.entry.text.now (agents_of source.entry.agents.now) from to }
 {
-    match pass_term(text, from, Limits::LEVEL, agents) {
-        Past::Wrong => false,
-        Past::At(next) => next == to,
-    }
+    pass_term(source, from, Limits::LEVEL) == Some(to)
 }
 
-// The same of n fields that stand from `from` to `to`.
-pub fn fields_argued(text: &[u8], from: usize, to: usize, n: usize, agents: &[u8]) -> bool
-    requires { to ≤ length text.now }
-    ensures { result ≡ fields_argued text.now (agents_of agents.now) to n from }
+// Whether the same holds of n fields that stand from `from` to `to`.
+#[tactic(auto, using(crate::proofs::Arguing::passing_laws))]
+pub fn fields_argued(source: Source<'_>, from: usize, to: usize, n: usize) -> bool
+    requires { to ≤ length source.text.now }
+    ensures { result ≡ fields_argued source.entry.text.now (agents_of source.entry.agents.now) to n from }
 {
     let mut at = from;
-    let mut i: usize = 0;
-    while i < n {
+    for _i in 0..n {
         if to < at {
             return false;
         }
-        let end = field_end(text, at, to);
-        if argued(text, at, end, agents) {
-            at = end + 1;
-            i += 1;
-        } else {
+        let end = field_end(source.text, at, to);
+        if !argued(source, at, end) {
             return false;
         }
+        at = end + 1;
     }
     true
 }

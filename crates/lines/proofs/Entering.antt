@@ -31,18 +31,6 @@ use Rattle.lines.proofs.Loops.{the_next}
 
 -- room for a name
 module _ (limit n at long : ℕ) where
-  pub room-full : limit ≤ n → false ≡ room_for limit n at long
-  unfolding room_for
-  room-full h = rw (le-ltb n limit h)
-
-  pub room-far : n < limit → text_max ≤ at → false ≡ room_for limit n at long
-  unfolding room_for
-  room-far h k = rw (lt-ltb n limit h, le-ltb at text_max k)
-
-  pub room-long : n < limit → at < text_max → leb long identifier_max ≡ room_for limit n at long
-  unfolding room_for
-  room-long h k = rw (lt-ltb n limit h, lt-ltb at text_max k)
-
   module _ {r : Bool} (e : r ≡ room_for limit n at long) (t : r ≡ true) where
     has_room : (n < limit) × (at < text_max) × (long ≤ identifier_max)
     unfolding room_for
@@ -77,18 +65,18 @@ module _ (text : List ℕ) (limit at end n : ℕ) (s : Sheet) (count : n ≡ s.n
     new_old h = rw (by_count, le-ltb limit n within, ← w, ← at-k, lt-ltb k n h)
 
     module _ (new : n ≤ k) {r : Bool} (fit : r ≡ room_for limit n at (end - at)) where
-      pub new_none : r ≡ false → done false s ≡ new_by text limit at end s
+      pub new_none : r ≡ false → done r s ≡ new_by text limit at end s
       unfolding new_after
       new_none f = rw (by_count, le-ltb limit n within, ← w, ← at-k, le-ltb k n new, ← fit, f)
 
-      pub new_new : r ≡ true → (s₁ : Sheet) → s₁ ≡ entered n at (end - at) s → done true s₁ ≡ new_by text limit at end s
+      pub new_new : r ≡ true → (s₁ : Sheet) → s₁ ≡ entered n at (end - at) s → done r s₁ ≡ new_by text limit at end s
       unfolding new_after
       new_new f s₁ p = rw (by_count, le-ltb limit n within, ← w, ← at-k, le-ltb k n new, ← fit, f, p)
 
 -- a word
 module _ (text : List ℕ) (ags : List Agent) (limit at end : ℕ) (s : Sheet) (word : Word)
     (w : word ≡ take (end - at) (drop at text)) (t : Bool) (is : t ≡ declared ags word) where
-  pub word_agent : t ≡ true → done true s ≡ word_by text ags limit at end s
+  pub word_agent : t ≡ true → done t s ≡ word_by text ags limit at end s
   unfolding word_by
   word_agent h = rw (← w, ← is, h)
 

@@ -8,48 +8,26 @@ use native.Mathlib.Omega.{arith}
 use lib.Dec.{ltb}
 use lib.ListN.{length, get_or, take, drop, length-drop, drop_of_length-le}
 use lib.Seq.{take_all}
-use Rattle.parts.specs.declared.SymbolNo.{SymbolNo}
-use Rattle.texts.specs.Bytes.{Word, any, same, fields, number_of}
+use borrow.Author.Tests.{le-ltb}
+use Rattle.texts.specs.Bytes.{Word, any, same, fields}
 use Rattle.texts.specs.Terms.{Term, nodes}
 use Rattle.texts.specs.Books.{Agent, declared}
-use Rattle.texts.specs.Answers.{absent, ◌>>=◌}
+use Rattle.texts.specs.Answers.{absent}
 use Rattle.texts.specs.RuleText.{Counts, header_of, terms_of, big_node}
 use Rattle.texts.specs.Passes.{misspelt}
 use Rattle.texts.proofs.Beneath.Passes.{terms-absent}
 use Rattle.scan.specs.Cutting.{field_start}
-use Rattle.scan.specs.Numbers.{value_of}
-use Rattle.scan.specs.declared.numbers.Number.{Number}
-use Rattle.scan.specs.declared.numbers.Number.TheVariants.{Value, Nothing}
 use Rattle.field_tests.specs.Spelled.{misspelt_at, wrong_at}
-use Rattle.field_tests.specs.declared.spelling.Spelling.{Spelling}
-use Rattle.field_tests.specs.declared.spelling.Spelling.TheVariants.{Right, Wrong}
 use Rattle.field_tests.specs.Sized.{big_at}
 use Rattle.field_tests.specs.Laws.Spelling.{right_spelled, wrong-spelled}
 use Rattle.field_tests.specs.Laws.Sizing.{big-exact}
 use Rattle.terms.specs.Words.{found}
 use Rattle.terms.proofs.Beneath.Numbers.{found-agent, found_none}
-use Rattle.terms.specs.declared.words.Found.{Found}
+use Rattle.terms.specs.declared.words.Agent.{Agent as Known}
+use Rattle.std.specs.Prelude as Prelude
+use Rattle.std.specs.Prelude.{is_some, Result, Ok, Err, is_err}
 use Rattle.lines.specs.Fields.{both_counts, too_big}
 use Rattle.lines.specs.Laws.Fields.{fields-drop, big-terms}
-
--- two counts
-module _ (m n : Word) {q : Number} (e : value_of q ≡ number_of m) where
-  pub first_bad : q ≡ Nothing → none ≡ both_counts m n
-  unfolding both_counts ◌>>=◌
-  first_bad h = let z : none ≡ number_of m = rw h at e in rw (← z)
-
-  module _ {a : ℕ} (h : q ≡ Value a) {p : Number} (f : value_of p ≡ number_of n) where
-    pub second-bad : p ≡ Nothing → none ≡ both_counts m n
-    unfolding both_counts ◌>>=◌
-    second-bad k =
-        let z : some a ≡ number_of m = rw h at e in
-        let y : none ≡ number_of n = rw k at f in rw (← z, ← y)
-
-    pub both-good : {b : ℕ} → p ≡ Value b → some (record { upper = a; lower = b }) ≡ both_counts m n
-    unfolding both_counts ◌>>=◌
-    both-good {b} k =
-        let z : some a ≡ number_of m = rw h at e in
-        let y : some b ≡ number_of n = rw k at f in rw (← z, ← y)
 
 -- a header
 module _ (w : Word) (fs : List Word) (n : ℕ) (e : n ≡ length fs) where
@@ -89,12 +67,9 @@ pub part-from : (l : List ℕ) (at s : ℕ) (r : List ℕ) → at ≡ s → r �
 part-from l at s r e q = q ∙ rw e (take_all (length l) (drop s l) (omega (arith, length-drop s l)))
 
 -- one field
-module _ (l : Word) {q : Spelling} (e : wrong_at q ≡ misspelt_at l) where
-  pub spelt_right : q ≡ Right → false ≡ misspelt l
-  spelt_right h = sym (right_spelled l (rw h at e))
-
-  pub spelt-wrong : {n : ℕ} → q ≡ Wrong n → true ≡ misspelt l
-  spelt-wrong {n} h = sym (wrong-spelled l n (rw h at e)).0
+pub spelt : (l : Word) (q : Result (Unit {0}) ℕ) → wrong_at q ≡ misspelt_at l → is_err q ≡ misspelt l
+spelt l (Ok x) e = sym (right_spelled l e)
+spelt l (Err n) e = sym (wrong-spelled l n e).0
 
 pub field-big : (l : Word) (n : ℕ) → n ≡ big_at l → ltb n (length l) ≡ too_big l
 unfolding too_big
@@ -106,13 +81,13 @@ module _ (l : List ℕ) (k n : ℕ) (e : n ≡ length (fields l)) where
     none_left : drop k (fields l) ≡ []
     none_left = drop_of_length-le (fields l) (rw e at few)
 
-    pub misspelt_none : false ≡ absent (terms_of (drop k (fields l)))
+    pub misspelt_none : ltb k n ≡ absent (terms_of (drop k (fields l)))
     unfolding absent terms_of
-    misspelt_none = rw none_left
+    misspelt_none = le-ltb k n few ∙ rw none_left refl
 
-    pub oversized_none : (ts : List Term) → terms_of (drop k (fields l)) ≡ some ts → false ≡ any big_node (nodes ts)
+    pub oversized_none : (ts : List Term) → terms_of (drop k (fields l)) ≡ some ts → ltb k n ≡ any big_node (nodes ts)
     unfolding any
-    oversized_none ts h = rw none_left at (big-terms (drop k (fields l)) ts h)
+    oversized_none ts h = le-ltb k n few ∙ rw none_left at (big-terms (drop k (fields l)) ts h)
 
   module _ (more : k < n) (p : List ℕ) (q : p ≡ drop (field_start l k) l) where
     here : fields p ≡ drop k (fields l)
@@ -126,20 +101,9 @@ module _ (l : List ℕ) (k n : ℕ) (e : n ≡ length (fields l)) where
     oversized_some h ts j = h ∙ (ap (any too_big) here ∙ big-terms (drop k (fields l)) ts j)
 
 -- a word looked up
-module _ (ags : List Agent) (w : Word) {f : Found} (e : f ≡ found 0 ags w) where
-  pub word-found : {k : SymbolNo} {a : ℕ} → f ≡ Found.Agent k a → true ≡ declared ags w
-  word-found {k} {a} h = go (declared ags w) refl
-    where
-      go : (t : Bool) → declared ags w ≡ t → true ≡ t
-      go true d = refl
-      go false d = absurd (
-          let z : Found.Nothing ≡ Found.Agent k a = sym (found_none ags w 0 d) ∙ (sym e ∙ h) in
-          let y : ◌≡◌ {A = ℕ} 0 1 = cc in omega arith
-          )
-
-  pub word-free : f ≡ Found.Nothing → false ≡ declared ags w
-  word-free h = go (declared ags w) refl
-    where
-      go : (t : Bool) → declared ags w ≡ t → false ≡ t
-      go true d = absurd (let z = sym (found-agent ags w 0 d) ∙ (sym e ∙ h) in let y : ◌≡◌ {A = ℕ} 0 1 = cc in omega arith)
-      go false d = refl
+pub word_known : (ags : List Agent) (w : Word) {f : Prelude.Option Known} → f ≡ found 0 ags w → is_some f ≡ declared ags w
+word_known ags w {f} e = go (declared ags w) refl
+  where
+    go : (t : Bool) → declared ags w ≡ t → is_some f ≡ t
+    go true d = ap is_some (e ∙ found-agent ags w 0 d)
+    go false d = ap is_some (e ∙ found_none ags w 0 d)

@@ -1,4 +1,5 @@
 -- Fields of a line: a header's counts, and a field with an identifier that is too big.
+use Rattle.std.specs.Prelude as Prelude
 use Rattle.std.specs.Prelude.{ℕ, Bool, cond, List, [], length, drop, leb}
 use Rattle.std.proofs.Math.Option.{Option, none, some}
 use Rattle.texts.specs.Bytes.{Word, any, fields, number_of}
@@ -6,12 +7,12 @@ use Rattle.texts.specs.Answers.{◌>>=◌}
 use Rattle.texts.specs.RuleText.{Counts}
 use Rattle.texts.specs.Walk.{walk}
 use Rattle.texts.specs.Passes.{big_met}
-use Rattle.lines.specs.declared.Header.{Header}
+use Rattle.lines.specs.declared.Counts.{Counts as Read}
 
--- what an answer about a header stands for
-abbrev pub counts_of : Header → Option Counts
-counts_of (Header.Counts a b) = some (record { upper = a; lower = b })
-counts_of Header.Wrong = none
+-- the counts that a header gives, if it is one
+abbrev pub counts_of : Prelude.Option Read → Option Counts
+counts_of (Prelude.Some c) = some (record { upper = c.upper; lower = c.lower })
+counts_of Prelude.None = none
 
 -- the counts that two fields spell
 unfoldable pub both_counts : Word → Word → Option Counts

@@ -4,3 +4,4 @@ pub mod Words
 pub mod Agents
 pub mod Names
 pub mod Parts
+pub mod Splits

@@ -9,38 +9,32 @@ ghost use Rattle.texts.specs.Passes as Passes;
 ghost use Rattle.scan.specs.Cutting.{field_start};
 ghost use Rattle.lines.specs.Fields.{counts_of, both_counts, too_big};
 
-use crate::Header;
+use crate::Counts;
 use field_tests::sizes::first_big;
-use field_tests::spelling::{Spelling, spelled};
-use scan::cutting::{field, field_at, field_count, field_start};
-use scan::numbers::{Number, decimal};
+use field_tests::spelling::spelled;
+use scan::cutting::{field, field_count, field_start};
+use scan::numbers::decimal;
 use scan::words::same;
 use terms::words::part;
 
 // The counts that two fields spell.
-fn both_counts(first: &[u8], second: &[u8]) -> Header
+fn both_counts(first: &[u8], second: &[u8]) -> Option<Counts>
     ensures { counts_of result ≡ both_counts first.now second.now }
 {
-    match decimal(first) {
-        Number::Nothing => Header::Wrong,
-        Number::Value(a) => match decimal(second) {
-            Number::Nothing => Header::Wrong,
-            Number::Value(b) => Header::Counts { upper: a, lower: b },
-        },
-    }
+    Some(Counts {
+        upper: decimal(first)?,
+        lower: decimal(second)?,
+    })
 }
 
-// A line of three fields: the word, and two numbers.
-pub fn header(line: &[u8], word: &[u8]) -> Header
+// A line of three fields: the word, and two numbers. None where the line is no header of that word.
+pub fn header(line: &[u8], word: &[u8]) -> Option<Counts>
     ensures { counts_of result ≡ header_of word.now (fields line.now) }
 {
-    if field_count(line) != 3 {
-        return Header::Wrong;
-    }
-    if same(field(line, 0), word) {
+    if field_count(line) == 3 && same(field(line, 0), word) {
         return both_counts(field(line, 1), field(line, 2));
     }
-    Header::Wrong
+    None
 }
 
 // The part of a line from field k on; the empty part at the end where there are not so many.
@@ -55,35 +49,21 @@ pub fn from_field(line: &[u8], k: usize) -> &[u8]
 fn misspelt_field(f: &[u8]) -> bool
     ensures { result ≡ Passes.misspelt f.now }
 {
-    match spelled(f) {
-        Spelling::Right => false,
-        Spelling::Wrong(_) => true,
-    }
+    spelled(f).is_err()
 }
 
 // Whether some field of a part spells no term.
 fn misspelt_in(part: &[u8]) -> bool
     ensures { result ≡ any Passes.misspelt (fields part.now) }
 {
-    let mut at: usize = 0;
-    while at <= part.len() {
-        let f = field_at(part, at);
-        if misspelt_field(f) {
-            return true;
-        }
-        at = at + f.len() + 1;
-    }
-    false
+    part.split(|b| *b == b'\t').any(|f| misspelt_field(f))
 }
 
 // Number 4 on the fields from number k on.
 pub fn misspelt(line: &[u8], k: usize) -> bool
     ensures { result ≡ absent (terms_of (drop k (fields line.now))) }
 {
-    if field_count(line) <= k {
-        return false;
-    }
-    misspelt_in(from_field(line, k))
+    k < field_count(line) && misspelt_in(from_field(line, k))
 }
 
 // Whether an identifier of a field is too long or inside too many brackets.
@@ -93,27 +73,18 @@ fn big_field(f: &[u8]) -> bool
     first_big(f) < f.len()
 }
 
-// Whether some field of a part has such an identifier.
+// Whether some field of a part has such an identifier. A chain of its own beside `misspelt_in`: a chain proves where the clause
+// mirrors it with the test by name.
 fn big_in(part: &[u8]) -> bool
     ensures { result ≡ any too_big (fields part.now) }
 {
-    let mut at: usize = 0;
-    while at <= part.len() {
-        let f = field_at(part, at);
-        if big_field(f) {
-            return true;
-        }
-        at = at + f.len() + 1;
-    }
-    false
+    part.split(|b| *b == b'\t').any(|f| big_field(f))
 }
 
-// Number 5 on the terms of the fields from number k on: an identifier that is too long, or a level that is too high.
+// Number 5 on the terms of the fields from number k on: an identifier that is too long, or a level that is too high. Its own function
+// beside `misspelt`: the clauses differ, since this one speaks only of fields that all spell terms.
 pub fn oversized(line: &[u8], k: usize) -> bool
     ensures { (ts : List Term) → terms_of (drop k (fields line.now)) ≡ some ts → result ≡ any big_node (nodes ts) }
 {
-    if field_count(line) <= k {
-        return false;
-    }
-    big_in(from_field(line, k))
+    k < field_count(line) && big_in(from_field(line, k))
 }

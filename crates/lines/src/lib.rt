@@ -5,9 +5,9 @@ pub mod fields; // fields.rt: a header; fields misspelt or too big
 pub mod words; // words.rt: the words of a part of a line, held against the agents and against one word
 pub mod names; // names.rt: the new names of a part, entered on a sheet
 
-// The two counts of a header; or the line is no header of that word.
-#[derive(Clone, Copy)]
-pub enum Header {
-    Counts { upper: usize, lower: usize },
-    Wrong,
+// The two counts of a header.
+#[derive(Clone, Copy, PartialEq, Eq)]
+pub struct Counts {
+    pub upper: usize,
+    pub lower: usize,
 }

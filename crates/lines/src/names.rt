@@ -9,21 +9,17 @@ ghost use Rattle.lines.specs.Names.{between, room_for, new_by, word_by, Entered}
 use crate::words::declared;
 use parts::{Limits, NameNo};
 use scan::words::{word_end, word_start};
-use terms::sheet;
 use terms::sheet::Sheet;
 use terms::words::{find_name, part};
+use terms::{Source, sheet};
 
 // Whether a name can be entered after n others: they are fewer than the limit, and its place and its length are in bounds.
+// `name_fits` of crates/terms is the same at the limit of a net: three tests in a line are shorter than a call across crates with a limit.
+#[tactic(auto, unfolding(crate::specs::Names::room_for))]
 fn room(limit: u16, n: u16, at: usize, long: usize) -> bool
     ensures { result ≡ room_for limit n at long }
 {
-    if limit <= n {
-        return false;
-    }
-    if Limits::TEXT <= at {
-        return false;
-    }
-    long <= Limits::IDENTIFIER
+    n < limit && at < Limits::TEXT && long <= Limits::IDENTIFIER
 }
 
 // The name that stands from `at` to `end`, entered if it is not on the sheet. False where there is no room for it.
@@ -40,57 +36,53 @@ fn enter_new(text: &[u8], at: usize, end: usize, limit: u16, sheet: &mut [u16; S
     if find_name(text, sheet, n, word) < n {
         return true;
     }
-    if room(limit, n, at, long) {
+    let free = room(limit, n, at, long);
+    if free {
         sheet::enter_name(sheet, NameNo(n), at as u16, long as u16);
-        return true;
     }
-    false
+    free
 }
 
 // The word that stands from `at` to `end`: an agent's is left out, another is a name.
 fn enter_word(
-    text: &[u8],
+    source: Source<'_>,
     at: usize,
     end: usize,
-    agents: &[u8],
     limit: u16,
     sheet: &mut [u16; Sheet::SIZE],
 ) -> bool
     requires { (at ≤ end) × (limit ≤ net_names_max) }
-    ensures { done result (view sheet.new) ≡ word_by text.now (agents_of agents.now) limit at end (view sheet.old) }
+    ensures { done result (view sheet.new) ≡ word_by source.entry.text.now (agents_of source.entry.agents.now) limit at end (view sheet.old) }
 {
-    let word = part(text, at, end - at);
-    if declared(word, agents) {
-        return true;
-    }
-    enter_new(text, at, end, limit, sheet)
+    let word = part(source.text, at, end - at);
+    declared(word, source.agents) || enter_new(source.text, at, end, limit, sheet)
 }
 
 // Enters the names among the words of a text from `from` to `to`. True where the names on the sheet are then at most as
 // many as the limit.
 pub fn enter_names(
-    text: &[u8],
+    source: Source<'_>,
     from: usize,
     to: usize,
-    agents: &[u8],
     limit: u16,
     sheet: &mut [u16; Sheet::SIZE],
 ) -> bool
     requires { (from ≤ to) × (limit ≤ net_names_max) }
-    ensures { Entered text.now (agents_of agents.now) limit (between text.now from to) result (view sheet.old) (view sheet.new) }
+    ensures { Entered source.entry.text.now (agents_of source.entry.agents.now) limit (between source.entry.text.now from to) result (view sheet.old) (view sheet.new) }
 {
     if limit < sheet::names(sheet) {
         return false;
     }
-    let words = part(text, 0, to);
+    let words = part(source.text, 0, to);
     let mut at = from;
+    // A step is a whole word, and where it stands in the text is written on the sheet: pieces of a split have no place.
     while at < words.len() {
         let s = word_start(words, at);
         if words.len() <= s {
             return true;
         }
         let e = word_end(words, s);
-        if !enter_word(text, s, e, agents, limit, sheet) {
+        if !enter_word(source, s, e, limit, sheet) {
             return false;
         }
         at = e;

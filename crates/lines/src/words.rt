@@ -1,5 +1,5 @@
 // The words of a part of a line, in reading order: how many are declared, and how often a word stands there.
-ghost use Rattle.std.specs.Prelude.{◌≡◌, cond, ◌≤◌, ◌-◌, length};
+ghost use Rattle.std.specs.Prelude.{◌≡◌, length};
 ghost use Rattle.texts.specs.Bytes.{keep, times, among};
 ghost use Rattle.texts.specs.Bytes as Bytes;
 ghost use Rattle.texts.specs.Books as Books;
@@ -10,9 +10,10 @@ ghost use Rattle.table.specs.Laws.Whole.{FitAgents};
 ghost use Rattle.terms.specs.Agents.{agents_of};
 
 use parts::Limits;
-use scan::words::{same, word_end, word_start};
+use scan::bytes::word_byte;
+use scan::words::same;
 use table::Layout;
-use terms::words::{Found, find_agent, part};
+use terms::words::{find_agent, part};
 
 // The agents' rows of a lent table.
 pub fn agents_part(table: &[u8; Limits::TABLE]) -> &[u8]
@@ -25,75 +26,31 @@ pub fn agents_part(table: &[u8; Limits::TABLE]) -> &[u8]
 pub fn declared(word: &[u8], agents: &[u8]) -> bool
     ensures { result ≡ Books.declared (agents_of agents.now) word.now }
 {
-    match find_agent(agents, word) {
-        Found::Nothing => false,
-        Found::Agent {
-            symbol: _,
-            arity: _,
-        } => true,
-    }
-}
-
-fn one_if(yes: bool) -> usize
-    ensures { (result ≡ cond yes 1 0) × (result ≤ 1) }
-{
-    if yes {
-        return 1;
-    }
-    0
+    find_agent(agents, word).is_some()
 }
 
 // How many words of a part are declared: each is a cell.
 pub fn cells_in(text: &[u8], agents: &[u8]) -> usize
     ensures { result ≡ length (keep (Books.declared (agents_of agents.now)) (words_in text.now)) }
 {
-    let mut n: usize = 0;
-    let mut at: usize = 0;
-    while at < text.len() {
-        let from = word_start(text, at);
-        if text.len() <= from {
-            return n;
-        }
-        let to = word_end(text, from);
-        n += one_if(declared(part(text, from, to - from), agents));
-        at = to;
-    }
-    n
+    text.split(|b| !word_byte(*b))
+        .filter(|w| !w.is_empty() && declared(w, agents))
+        .count()
 }
 
 // How often a word stands in a part.
 pub fn times_in(text: &[u8], word: &[u8]) -> usize
     ensures { result ≡ times word.now (words_in text.now) }
 {
-    let mut n: usize = 0;
-    let mut at: usize = 0;
-    while at < text.len() {
-        let from = word_start(text, at);
-        if text.len() <= from {
-            return n;
-        }
-        let to = word_end(text, from);
-        n += one_if(same(word, part(text, from, to - from)));
-        at = to;
-    }
-    n
+    text.split(|b| !word_byte(*b))
+        .filter(|w| !w.is_empty() && same(word, w))
+        .count()
 }
 
 // Whether a word stands in a part.
 pub fn stands_in(text: &[u8], word: &[u8]) -> bool
     ensures { result ≡ among word.now (words_in text.now) }
 {
-    let mut at: usize = 0;
-    while at < text.len() {
-        let from = word_start(text, at);
-        if text.len() <= from {
-            return false;
-        }
-        let to = word_end(text, from);
-        if same(word, part(text, from, to - from)) {
-            return true;
-        }
-        at = to;
-    }
-    false
+    text.split(|b| !word_byte(*b))
+        .any(|w| !w.is_empty() && same(word, w))
 }

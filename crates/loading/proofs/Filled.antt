@@ -76,9 +76,6 @@ stacked_is (p ∷ ps) s =
     ap (put_on Waits p) (stacked_is ps s)
     ∙ ap (λ n. st s.symbols s.arguments s.names (stack (pushed_all s.waiting.used (p ∷ ps) s.waiting.words) n) s.stuck s.face s.loops) (let z : suc (s.waiting.used + length ps) ≡ s.waiting.used + suc (length ps) = omega arith in z)
 
-pub none_waits : (s : St) → s ≡ empty → s.waiting.used ≡ 0
-none_waits s e = ap (λ t. t.waiting.used) e
-
 pub fill_way : (ags : List Agent) (h : Sheet) (codes : List ℕ) (f m n : ℕ) (s₀ s₁ s₂ s₃ s₄ : St) → s₀ ≡ empty → s₁ ≡ stacked (equations_on codes f m) s₀
     → s₂ ≡ cells_from 0 (cells_on ags h) s₁ → n ≡ h.names → s₃ ≡ laid Names 0 (tab n (λ k. 1)) s₂ → s₄ ≡ faced (tab f (λ k. get_or codes k 0)) f s₃
     → s₄ ≡ loaded (net_on ags h codes f m)

@@ -8,9 +8,8 @@ use lib.Seq.{drop-cons, drop-length}
 use Rattle.parts.specs.Limits.{arity_max, net_cells_max, net_equations_max}
 use Rattle.parts.specs.Sides.{Pair, name, cell, ◌:=◌, code, side}
 use Rattle.parts.specs.Codes.{code-side}
-use Rattle.parts.specs.Typed.{pair, plain, number, typed, plain-typed}
+use Rattle.parts.specs.Typed.{pair, number, typed, equation, plain-typed}
 use Rattle.parts.specs.declared.Equation.{Equation}
-use Rattle.parts.specs.declared.Side as Typed
 use Rattle.model.specs.Table.{no_cell}
 use Rattle.model.specs.State.{St}
 use Rattle.texts.specs.Books.{Agent}
@@ -20,36 +19,27 @@ use Rattle.table.specs.Lists.{tab}
 use Rattle.table.specs.Laws.Lists.{length-tab, tab_at}
 use Rattle.terms.specs.Sheet.{Sheet}
 use Rattle.state.specs.Places.{stored, counted}
-use Rattle.state.specs.Moves.{RoomOn, put_on}
+use Rattle.state.specs.Moves.{put_on}
 use Rattle.state.specs.declared.Part.{Part}
 use Rattle.state.specs.declared.Part.TheVariants.{Symbols, Arguments, Face}
 use Rattle.state.specs.declared.Pile.TheVariants.{Waits, Faces}
 use Rattle.loading.specs.OnSheet.{symbol_on, width_on, cell_on, cells_on, equation_on, equations_on, Lent}
 use Rattle.loading.specs.Writing.{laid, cell_written, cells_from, Equated, faced, stacked}
 
-pub symbol_none : (s : Sheet) (c w : ℕ) → w ≡ get_or s.symbols c 0 → w ≡ 0 → 0 ≡ symbol_on s c
+pub symbol_way : (s : Sheet) (c w r : ℕ) → w ≡ get_or s.symbols c 0 → w < 65536 → r ≡ w - 1 → (r ≡ symbol_on s c) × (r < 65535)
 unfolding symbol_on
-symbol_none s c w e z = ap pred (sym z ∙ e)
+symbol_way s c w r e f q = ((let z : r ≡ pred w = omega arith in z) ∙ ap pred e, omega arith)
 
-pub symbol_some : (s : Sheet) (c w : ℕ) → w ≡ get_or s.symbols c 0 → ¬ (w ≡ 0) → w - 1 ≡ symbol_on s c
-unfolding symbol_on
-symbol_some s c w e z = (let q : w - 1 ≡ pred w = omega arith in q) ∙ ap pred e
-
-module _ (table : List ℕ) (s : Sheet) (c k r : ℕ) (e : k ≡ symbol_on s c) (q : r ≡ arity_at (agents_in table) k) where
-  pub width_is : r ≡ width_on (agents_in table) s c
-  unfolding width_on
-  width_is = q ∙ ap (arity_at (agents_in table)) e
-
-  pub width_small : Lent table → r ≤ arity_max
-  width_small l = omega (arith, q, l.narrow k)
+-- r is the arity found, and m is it as a word
+pub width_way : (table : List ℕ) (s : Sheet) (c k r m : ℕ) → k ≡ symbol_on s c → r ≡ arity_at (agents_in table) k → m ≡ r → Lent table
+    → (m ≡ width_on (agents_in table) s c) × (m ≤ arity_max)
+unfolding width_on
+width_way table s c k r m e q h l = (h ∙ q ∙ ap (arity_at (agents_in table)) e, omega (arith, q, l.narrow k))
 
 -- Words laid: those from number i on are still to be written.
 pub record Laying (p : Part) (at n : ℕ) (f : ℕ → ℕ) (s₀ s : St) (i : ℕ) : Type 0 where
   pub low : i ≤ n
   pub rest : laid p (at + i) (drop i (tab n f)) s ≡ laid p at (tab n f) s₀
-
-pub lay_none : (p : Part) (at n : ℕ) (f : ℕ → ℕ) (s : St) → Laying p at n f s s 0
-lay_none p at n f s = record { low = omega arith; rest = ap (λ k. laid p k (tab n f) s) (omega arith) }
 
 pub lay_more : {p : Part} {at n : ℕ} {f : ℕ → ℕ} {s₀ s : St} {i : ℕ} (s₁ : St) (v : ℕ) → Laying p at n f s₀ s i → i < n → v ≡ f i
     → s₁ ≡ stored p (at + i) v s → Laying p at n f s₀ s₁ (i + 1)
@@ -98,9 +88,6 @@ pub record Celling (ags : List Agent) (h : Sheet) (s₀ s : St) (c : ℕ) : Type
   pub few : h.cells ≤ net_cells_max
   pub rest : cells_from c (drop c (cells_on ags h)) s ≡ cells_from 0 (cells_on ags h) s₀
 
-pub cell_none : (ags : List Agent) (h : Sheet) (s : St) → h.cells ≤ net_cells_max → Celling ags h s s 0
-cell_none ags h s k = record { low = omega arith; few = k; rest = refl }
-
 pub cell_more : {ags : List Agent} {h : Sheet} {s₀ s : St} {c : ℕ} (n : ℕ) (s₁ : St) → Celling ags h s₀ s c → n ≡ h.cells → c < n
     → s₁ ≡ cell_written c (cell_on ags h c) s → Celling ags h s₀ s₁ (c + 1)
 unfolding cells_from cells_on
@@ -123,26 +110,22 @@ cell_end {ags} {h} {s₀} {s} {c} n l en q =
     let z : c ≡ length (tab h.cells (cell_on ags h)) = omega (arith, l.low, en, length-tab h.cells (cell_on ags h)) in
     sym (ap (λ m. cells_from c m s) (ap (λ k. drop k (tab h.cells (cell_on ags h))) z ∙ drop-length (tab h.cells (cell_on ags h)))) ∙ l.rest
 
-pub cell-small : {ags : List Agent} {h : Sheet} {s₀ s : St} {c : ℕ} (n : ℕ) → Celling ags h s₀ s c → n ≡ h.cells → c < n → c < net_cells_max
-cell-small n l e q = omega (arith, l.few)
-
 -- Sides and equations.
-pub side-small : (w : ℕ) (r : Typed.Side) → r ≡ typed (side w) → w < 65536 → number r < 32768
+side-small : (w : ℕ) → w < 65536 → number (typed (side w)) < 32768
 unfolding side
-side-small w r e h = omega (arith, ap number e, go (w % 2))
+side-small w h = go (w % 2)
   where
     go : (r : ℕ) → number (typed (elim r [ zero ↦ name (w / 2) | suc r ↦ cell (w / 2) ])) < 32768
     go ℕ.zero = omega arith
     go (ℕ.suc r) = omega arith
 
-pub equation_way : (codes : List ℕ) (f k a b : ℕ) (l r : Typed.Side) → a ≡ get_or codes (f + 2 * k) 0 → b ≡ get_or codes (f + 2 * k + 1) 0
-    → l ≡ typed (side a) → number l < 32768 → r ≡ typed (side b) → number r < 32768 → Equated (record { left = l; right = r }) (equation_on codes f k)
-equation_way codes f k a b l r ea eb el hl er hr =
+pub equation_way : (codes : List ℕ) (f k : ℕ) (e : Equation) → e ≡ equation (get_or codes (f + 2 * k) 0) (get_or codes (f + 2 * k + 1) 0)
+    → get_or codes (f + 2 * k) 0 < 65536 → get_or codes (f + 2 * k + 1) 0 < 65536 → Equated e (equation_on codes f k)
+equation_way codes f k e q hl hr =
     record {
-      is = ap₂ (λ x y. plain x := plain y) (el ∙ ap (λ x. typed (side x)) ea) (er ∙ ap (λ x. typed (side x)) eb)
-          ∙ ap₂ ◌:=◌ (plain-typed (side (get_or codes (f + 2 * k) 0))) (plain-typed (side (get_or codes (f + 2 * k + 1) 0)));
-      left = hl;
-      right = hr;
+      is = ap pair q ∙ ap₂ ◌:=◌ (plain-typed (side (get_or codes (f + 2 * k) 0))) (plain-typed (side (get_or codes (f + 2 * k + 1) 0)));
+      left = rw q (side-small _ hl);
+      right = rw q (side-small _ hr);
     }
 
 -- Equations put: those from number k on wait already.
@@ -162,9 +145,6 @@ stack_none codes f n s h e =
       used = omega arith;
       done = sym (ap (λ l. stacked l s) (ap (λ k. drop k (tab n (equation_on codes f))) z ∙ drop-length (tab n (equation_on codes f))));
     }
-
-pub stack-room : {codes : List ℕ} {f n : ℕ} {s₀ s : St} {k : ℕ} (e : Equation) (p : Pair) → Stacking codes f n s₀ s k → Equated e p → 0 < k → RoomOn Waits e s
-stack-room e p l q h = record { room = omega (arith, l.used, l.few, l.low); left = q.left; right = q.right }
 
 on : (p : Pair) (t : St) → (put_on Waits p t).waiting.used ≡ suc t.waiting.used
 unfolding put_on
@@ -186,6 +166,3 @@ stack_more {codes} {f} {n} {s₀} {s} {k} s₁ e l h q w =
           ∙ ap₂ (put_on Waits) (q.is ∙ sym (tab_at n (equation_on codes f) (k - 1) (equation_on codes f 0) j)) (l.done ∙ ap (λ m. stacked (drop m (tab n (equation_on codes f))) s₀) (sym z))
           ∙ sym (ap (λ m. stacked m s₀) d);
     }
-
-pub stack_end : {codes : List ℕ} {f n : ℕ} {s₀ s : St} {k : ℕ} → Stacking codes f n s₀ s k → k ≤ 0 → s ≡ stacked (equations_on codes f n) s₀
-stack_end {codes} {f} {n} {s₀} {s} {k} l h = l.done ∙ ap (λ m. stacked (drop m (equations_on codes f n)) s₀) (let z : k ≡ 0 = omega arith in z)

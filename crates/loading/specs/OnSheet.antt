@@ -50,8 +50,7 @@ pub record Lent (table : List ℕ) : Type 0 where
   pub narrow : (k : ℕ) → arity_at (agents_in table) k ≤ arity_max
 
 -- So does what stands on the sheet and in the codes.
-pub record Ready (table : List ℕ) (s : Sheet) (f n : ℕ) : Type 0 where
-  pub lent : Lent table
+pub record Ready (s : Sheet) (f n : ℕ) : Type 0 where
   pub cells : s.cells ≤ net_cells_max
   pub names : s.names ≤ net_names_max
   pub faces : f ≤ face_max

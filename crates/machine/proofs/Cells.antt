@@ -1,10 +1,5 @@
 -- One law for each way out of the meeting of two cells.
-use mathlib.Core.Path.{◌≡◌, refl, ap, subst, sym, ◌∙◌}
-use mathlib.Core.Bool.{Bool, true}
-use mathlib.Core.List.{List, [], ◌∷◌, ◌++◌}
-use Prim.Native.Nat.{ℕ, suc, ◌-◌, ◌<◌, ◌≤◌, pred}
-use native.Mathlib.Omega.{arith}
-use lib.ListN.{length, get_or}
+use Rattle.std.proofs.Common.{◌≡◌, refl, ap, subst, sym, ◌∙◌, Bool, true, false, Option, Some, None, Result, Ok, Err, List, [], ◌∷◌, ◌++◌, ℕ, suc, ◌-◌, ◌<◌, ◌≤◌, pred, arith, length, get_or}
 use Rattle.calculus.proofs.Beneath.Count.{δ_same, sum-append}
 use Rattle.calculus.specs.Terms.{δ, count, Terms, Eqn}
 use Rattle.parts.specs.Limits.{symbols_max}
@@ -32,7 +27,7 @@ use Rattle.table.specs.Layout.{entry_at}
 use Rattle.table.specs.Layout as Layout
 use Rattle.table.specs.Rule.{matched}
 use Rattle.table.specs.declared.Match.{Match}
-use Rattle.table.specs.declared.Match.TheVariants.{Nothing, Straight, Turned}
+use Rattle.table.specs.declared.Match.TheVariants.{Straight, Turned}
 use Rattle.texts.specs.Coded as Coded
 use Rattle.texts.specs.TableTest.{test_table}
 use Rattle.kept.specs.Right.{Right}
@@ -42,25 +37,26 @@ use Rattle.firing.specs.Built.{Ruled}
 use Rattle.firing.specs.Fires.{Pairing}
 use Rattle.machine.proofs.Ruling.{rule_is, ruled}
 use Rattle.machine.proofs.Sounds.{pullable}
-use Rattle.machine.specs.Meets.{Symbolled, Stickable, stuck_on, Interactable, Interacting, Meetable, Meeting}
-use Rattle.machine.specs.declared.outcome.Outcome.{Outcome}
-use Rattle.machine.specs.declared.outcome.Outcome.TheVariants.{Linked, Interacted, Spent, NoRoom}
+use Rattle.machine.specs.Meets.{Symbolled, Stickable, stuck_on, Counted, Interactable, Interacting, Meetable, Meeting}
+use Rattle.machine.specs.declared.outcome.Made.{Made}
+use Rattle.machine.specs.declared.outcome.Stop.{Stop}
+use Rattle.machine.specs.declared.outcome.Stop.TheVariants.{Ended, Paused, NoRoom}
 
 never : {A : Type 0} → ◌≡◌ {A = ℕ} 0 1 → A
 never z = absurd (omega arith)
 
 -- What was found, by the answer of the look-up.
-found_none : (r : Found) (m : Match) → m ≡ matched r → m ≡ Nothing → r ≡ none
+found_none : (r : Found) (m : Option Match) → m ≡ matched r → m ≡ None → r ≡ none
 found_none none m e q = refl
 found_none (straight i d) m e q = never (let z : ◌≡◌ {A = ℕ} 0 1 = cc in z)
 found_none (turned i d) m e q = never (let z : ◌≡◌ {A = ℕ} 0 1 = cc in z)
 
-found-straight : (r : Found) (m : Match) (i : ℕ) → m ≡ matched r → m ≡ Straight i → (e : Entry) × (r ≡ straight i e)
+found-straight : (r : Found) (m : Option Match) (i : ℕ) → m ≡ matched r → m ≡ Some (Straight i) → (e : Entry) × (r ≡ straight i e)
 found-straight none m i e q = never (let z : ◌≡◌ {A = ℕ} 0 1 = cc in z)
 found-straight (straight j d) m i e q = (d, ap (λ n. straight n d) (let z : j ≡ i = cc in z))
 found-straight (turned j d) m i e q = never (let z : ◌≡◌ {A = ℕ} 0 1 = cc in z)
 
-found-turned : (r : Found) (m : Match) (i : ℕ) → m ≡ matched r → m ≡ Turned i → (e : Entry) × (r ≡ turned i e)
+found-turned : (r : Found) (m : Option Match) (i : ℕ) → m ≡ matched r → m ≡ Some (Turned i) → (e : Entry) × (r ≡ turned i e)
 found-turned none m i e q = never (let z : ◌≡◌ {A = ℕ} 0 1 = cc in z)
 found-turned (straight j d) m i e q = never (let z : ◌≡◌ {A = ℕ} 0 1 = cc in z)
 found-turned (turned j d) m i e q = (d, ap (λ n. turned n d) (let z : j ≡ i = cc in z))
@@ -136,16 +132,16 @@ module _ (w : List ℕ) (a b k : ℕ) (s : St) (f : Meetable w a b k s) where
         right = symbol-few b both-live.1.1;
       }
 
-  module _ (m : Match) (told : m ≡ matched (rule_of (under w) a b s)) where
+  module _ (m : Option Match) (told : m ≡ matched (rule_of (under w) a b s)) where
     -- no rule
-    step-held : m ≡ Nothing → stepped (under w) s pick ≡ moved (held a b (taken_out k s))
+    step-held : m ≡ None → stepped (under w) s pick ≡ moved (held a b (taken_out k s))
     step-held e =
         step-table f.sound pick waits
         (subst (λ q. Row (under w) (taken_out (place s pick) s) q (held a b (taken_out (place s pick) s))) (sym there)
         (no_rule (found_none (rule_of (under w) a b s) m told e)))
         ∙ ap (λ n. moved (held a b (taken_out n s))) at
 
-    pub stickable : m ≡ Nothing → Stickable a b k s
+    pub stickable : m ≡ None → Stickable a b k s
     stickable e =
         let g = step_sound (given-sound w f.given) f.sound pick (step-held e) in
         record {
@@ -155,8 +151,8 @@ module _ (w : List ℕ) (a b k : ℕ) (s : St) (f : Meetable w a b k s) where
           right = both-live.1.0;
         }
 
-    pub met-stuck : (q : Kept) (may : Bool) (s' : St) → m ≡ Nothing → Right q s → s' ≡ stuck_on a b k s
-        → Meeting (under w) may a b k s (Linked q) s'
+    pub met-stuck : (q : Kept) (may : Bool) (s' : St) → m ≡ None → Right q s → s' ≡ stuck_on a b k s
+        → Meeting (under w) may a b k s (Ok (record { kept = q; interacted = false })) s'
     unfolding Meeting stuck_on put_on out_of_waiting
     met-stuck q may s' e r g =
         let n = found_none (rule_of (under w) a b s) m told e in
@@ -210,19 +206,19 @@ module _ (w : List ℕ) (a b k : ℕ) (s : St) (f : Meetable w a b k s) where
         let n = at_number g in
         (ruled w tested i n.0, sym n.1 ∙ rule_is w tested i n.0)
 
-    straight_at : (i : ℕ) → m ≡ Straight i → Ruled w i × (rule_of (under w) a b s ≡ straight i (entry_at w i))
+    straight_at : (i : ℕ) → m ≡ Some (Straight i) → Ruled w i × (rule_of (under w) a b s ≡ straight i (entry_at w i))
     straight_at i e =
         let g = found-straight (rule_of (under w) a b s) m i told e in
         let h = found i g.0 (subst (Finds (under w).rules 0 (symbol_of a s) (symbol_of b s)) g.1 (finds (under w).rules 0 (symbol_of a s) (symbol_of b s))).0 in
         (h.0, g.1 ∙ ap (straight i) h.1)
 
-    turned_at : (i : ℕ) → m ≡ Turned i → Ruled w i × (rule_of (under w) a b s ≡ turned i (entry_at w i))
+    turned_at : (i : ℕ) → m ≡ Some (Turned i) → Ruled w i × (rule_of (under w) a b s ≡ turned i (entry_at w i))
     turned_at i e =
         let g = found-turned (rule_of (under w) a b s) m i told e in
         let h = found i g.0 (subst (Finds (under w).rules 0 (symbol_of a s) (symbol_of b s)) g.1 (finds (under w).rules 0 (symbol_of a s) (symbol_of b s))).0 in
         (h.0, g.1 ∙ ap (turned i) h.1)
 
-    pub straight-ready : (i : ℕ) → m ≡ Straight i → Interactable w i a b k s
+    pub straight-ready : (i : ℕ) → m ≡ Some (Straight i) → Interactable w i a b k s
     straight-ready i e =
         record {
           ruled = (straight_at i e).0;
@@ -230,7 +226,7 @@ module _ (w : List ℕ) (a b k : ℕ) (s : St) (f : Meetable w a b k s) where
           pairing = pairing;
         }
 
-    pub turned-ready : (i : ℕ) → m ≡ Turned i → Interactable w i b a k s
+    pub turned-ready : (i : ℕ) → m ≡ Some (Turned i) → Interactable w i b a k s
     turned-ready i e =
         record {
           ruled = (turned_at i e).0;
@@ -244,7 +240,7 @@ module _ (w : List ℕ) (a b k : ℕ) (s : St) (f : Meetable w a b k s) where
     by_rule r e =
         ap (λ r. elim r as (λ z. Answer) [ none ↦ moved (held a b (taken_out k s)) | straight i e ↦ fire_if e a b (taken_out k s) | turned i e ↦ fire_if e b a (taken_out k s) ]) e
 
-    pub met-straight : (i : ℕ) (o : Outcome) (may : Bool) (s' : St) → m ≡ Straight i → Interacting (entry_at w i) may a b k s o s'
+    pub met-straight : (i : ℕ) (o : Result Made Stop) (may : Bool) (s' : St) → m ≡ Some (Straight i) → Interacting (entry_at w i) may a b k s o s'
         → Meeting (under w) may a b k s o s'
     unfolding Meeting Interacting out_of_waiting
     met-straight i o may s' e = go o
@@ -252,13 +248,16 @@ module _ (w : List ℕ) (a b k : ℕ) (s : St) (f : Meetable w a b k s) where
         r : rule_of (under w) a b s ≡ straight i (entry_at w i)
         r = (straight_at i e).1
 
-        go : (o : Outcome) → Interacting (entry_at w i) may a b k s o s' → Meeting (under w) may a b k s o s'
-        go (Linked q) g = absurd g
-        go (Interacted q) (y, g, h) = (ap one_made r, y, by_rule (straight i (entry_at w i)) r ∙ g, h)
-        go Spent (y, g) = (ap one_made r, y, g)
-        go NoRoom (y, g, h) = (ap one_made r, y, by_rule (straight i (entry_at w i)) r ∙ g, h)
+        counted : (q : Made) → q.interacted ≡ true → may ≡ true → Counted (one_made (rule_of (under w) a b s)) may q.interacted
+        counted q y m = subst (Counted (one_made (rule_of (under w) a b s)) may) (sym y) (ap one_made r, m)
 
-    pub met_turned : (i : ℕ) (o : Outcome) (may : Bool) (s' : St) → m ≡ Turned i → Interacting (entry_at w i) may b a k s o s'
+        go : (o : Result Made Stop) → Interacting (entry_at w i) may a b k s o s' → Meeting (under w) may a b k s o s'
+        go (Ok q) (y, m, g, h) = (counted q y m, by_rule (straight i (entry_at w i)) r ∙ g, h)
+        go (Err Ended) g = absurd g
+        go (Err Paused) (y, g) = (ap one_made r, y, g)
+        go (Err NoRoom) (y, g, h) = (ap one_made r, y, by_rule (straight i (entry_at w i)) r ∙ g, h)
+
+    pub met_turned : (i : ℕ) (o : Result Made Stop) (may : Bool) (s' : St) → m ≡ Some (Turned i) → Interacting (entry_at w i) may b a k s o s'
         → Meeting (under w) may a b k s o s'
     unfolding Meeting Interacting out_of_waiting
     met_turned i o may s' e = go o
@@ -266,8 +265,11 @@ module _ (w : List ℕ) (a b k : ℕ) (s : St) (f : Meetable w a b k s) where
         r : rule_of (under w) a b s ≡ turned i (entry_at w i)
         r = (turned_at i e).1
 
-        go : (o : Outcome) → Interacting (entry_at w i) may b a k s o s' → Meeting (under w) may a b k s o s'
-        go (Linked q) g = absurd g
-        go (Interacted q) (y, g, h) = (ap one_made r, y, by_rule (turned i (entry_at w i)) r ∙ g, h)
-        go Spent (y, g) = (ap one_made r, y, g)
-        go NoRoom (y, g, h) = (ap one_made r, y, by_rule (turned i (entry_at w i)) r ∙ g, h)
+        counted : (q : Made) → q.interacted ≡ true → may ≡ true → Counted (one_made (rule_of (under w) a b s)) may q.interacted
+        counted q y m = subst (Counted (one_made (rule_of (under w) a b s)) may) (sym y) (ap one_made r, m)
+
+        go : (o : Result Made Stop) → Interacting (entry_at w i) may b a k s o s' → Meeting (under w) may a b k s o s'
+        go (Ok q) (y, m, g, h) = (counted q y m, by_rule (turned i (entry_at w i)) r ∙ g, h)
+        go (Err Ended) g = absurd g
+        go (Err Paused) (y, g) = (ap one_made r, y, g)
+        go (Err NoRoom) (y, g, h) = (ap one_made r, y, by_rule (turned i (entry_at w i)) r ∙ g, h)

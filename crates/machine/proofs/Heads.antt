@@ -1,12 +1,6 @@
 -- One law for each way out of a turn, and for each way through a run.
-use mathlib.Core.Path.{◌≡◌, refl, ap, ap₂, subst, sym, ◌∙◌}
-use mathlib.Core.Bool.{true}
-use mathlib.Core.List.{List}
-use mathlib.Core.Logic.{◌⊎◌, inl, inr}
-use Prim.Native.Nat.{ℕ, zero, suc, ◌-◌, ◌<◌, ◌≤◌}
-use native.Mathlib.Omega.{arith}
-use lib.Dec.{ltb}
-use borrow.Author.Tests.{ltb-true, ltb-false}
+use Rattle.std.proofs.Common.{◌≡◌, refl, ap, ap₂, subst, sym, ◌∙◌, Bool, true, false, Result, Ok, Err, List, ◌⊎◌, inl, inr, ℕ, zero, suc, ◌-◌, ◌<◌, ◌≤◌, arith, ltb, ltb-true, ltb-false}
+use mir.Val.{bool_byte}
 use Rattle.lent.specs.Both.{given-sound}
 use Rattle.model.proofs.Kept.{step_sound}
 use Rattle.model.specs.Run.{stopped, run}
@@ -22,9 +16,10 @@ use Rattle.kept.specs.Right.{Right}
 use Rattle.kept.specs.declared.Kept.{Kept}
 use Rattle.machine.specs.Picked.{Steppable, Went}
 use Rattle.machine.specs.Turns.{Turnable, WentOn, TurnAs}
-use Rattle.machine.specs.declared.outcome.Outcome.{Outcome}
-use Rattle.machine.specs.declared.outcome.Outcome.TheVariants.{Linked, Interacted, Spent, NoRoom}
-use Rattle.machine.specs.declared.turns.Turn.TheVariants as To
+use Rattle.machine.specs.Meets.{Counted}
+use Rattle.machine.specs.declared.outcome.Made.{Made}
+use Rattle.machine.specs.declared.outcome.Stop.{Stop}
+use Rattle.machine.specs.declared.outcome.Stop.TheVariants.{Ended, Paused, NoRoom}
 
 -- The model's run, by what is at the head.
 module _ (T : Table) (steps budget made : ℕ) (s : St) where
@@ -98,45 +93,56 @@ module _ (T : Table) (t : SoundTable T) (left : ℕ) (s : St) (h : Sound T s) (w
       go (ℕ.suc o) e (inr p) = run-head T steps left made s (suc o) (refused 13) w e f ∙ paid left p
 
 -- The ways out of a turn.
-pub turn-ended : (T : Table) (left : ℕ) (s : St) (n : ℕ) → n ≡ s.waiting.used → n ≡ 0 → TurnAs T left s To.Ended s
+pub turn-ended : (T : Table) (left : ℕ) (s : St) (n : ℕ) → n ≡ s.waiting.used → n ≡ 0 → TurnAs T left s (Err Ended) s
 unfolding TurnAs
 turn-ended T left s n e q = (λ steps made. run_none T steps left made s (sym e ∙ q), refl)
 
 pub head_steppable : (w : List ℕ) (s : St) (n : ℕ) → Turnable w s → n ≡ s.waiting.used → ¬ (n ≡ 0) → Steppable w s 0
 head_steppable w s n f e q = record { given = f.given; sound = f.sound; waits = omega arith }
 
-module _ (w : List ℕ) (left : ℕ) (s : St) (n : ℕ) (f : Turnable w s) (many : n ≡ s.waiting.used) (some : ¬ (n ≡ 0)) (o : Outcome) (s' : St) (went : Went (under w) (ltb 0 left) s 0 o s') where
+module _ (w : List ℕ) (left : ℕ) (s : St) (n : ℕ) (f : Turnable w s) (many : n ≡ s.waiting.used) (some : ¬ (n ≡ 0)) (o : Result Made Stop) (s' : St) (went : Went (under w) (ltb 0 left) s 0 o s') where
   waits : 0 < s.waiting.used
   waits = omega arith
 
-  pub turn_linked : (k : Kept) → o ≡ Linked k → TurnAs (under w) left s (To.On (record { kept = k; left = left })) s'
-  unfolding TurnAs Went
-  turn_linked k e =
-      let g = subst (λ o. Went (under w) (ltb 0 left) s 0 o s') e went in
-      wired_on (under w) (given-sound w f.given) left s f.sound waits k s' g.0 g.1 g.2
+  went_at : {o' : Result Made Stop} → o ≡ o' → Went (under w) (ltb 0 left) s 0 o' s'
+  went_at e = subst (λ o. Went (under w) (ltb 0 left) s 0 o s') e went
 
-  pub left_fits : (k : Kept) → o ≡ Interacted k → 1 ≤ left
-  unfolding Went
-  left_fits k e = ltb-true 0 left (subst (λ o. Went (under w) (ltb 0 left) s 0 o s') e went).1
+  -- an interaction was paid for
+  module _ (m : Made) (e : o ≡ Ok m) (less : ℕ) (paid : less ≡ bool_byte m.interacted) where
+    pub left_fits : less ≤ left
+    unfolding Went
+    left_fits = go m.interacted paid (went_at e).0
+      where
+        go : (b : Bool) → less ≡ bool_byte b → Counted (one_made (rule_at (under w) s 0)) (ltb 0 left) b → less ≤ left
+        go true q g = let h = ltb-true 0 left g.1 in omega arith
+        go false q g = omega arith
 
-  pub turn_interacted : (k : Kept) → o ≡ Interacted k → TurnAs (under w) left s (To.On (record { kept = k; left = left - 1 })) s'
-  unfolding TurnAs Went
-  turn_interacted k e =
-      let g = subst (λ o. Went (under w) (ltb 0 left) s 0 o s') e went in
-      let b = ltb-true 0 left g.1 in
-      fired_on (under w) (given-sound w f.given) left s f.sound waits k s' (left - 1) (omega arith) g.0 g.2 g.3
+    pub turn_on : TurnAs (under w) left s (Ok (record { kept = m.kept; left = left - less })) s'
+    unfolding TurnAs Went
+    turn_on = go m.interacted paid g.0
+      where
+        g : Went (under w) (ltb 0 left) s 0 (Ok m) s'
+        g = went_at e
 
-  pub turn_spent : o ≡ Spent → TurnAs (under w) left s To.Paused s'
+        go : (b : Bool) → less ≡ bool_byte b → Counted (one_made (rule_at (under w) s 0)) (ltb 0 left) b
+            → WentOn (under w) left s (record { kept = m.kept; left = left - less }) s'
+        go false q c =
+            let z : left ≡ left - less = omega arith in
+            subst (λ k. WentOn (under w) left s (record { kept = m.kept; left = k }) s') z
+            (wired_on (under w) (given-sound w f.given) left s f.sound waits m.kept s' c g.1 g.2)
+        go true q c =
+            let b = ltb-true 0 left c.1 in
+            fired_on (under w) (given-sound w f.given) left s f.sound waits m.kept s' (left - less) (omega arith) c.0 g.1 g.2
+
+  pub turn_stopped : (e : Stop) → o ≡ Err e → TurnAs (under w) left s (Err e) s'
   unfolding TurnAs Went
-  turn_spent e =
-      let g = subst (λ o. Went (under w) (ltb 0 left) s 0 o s') e went in
+  turn_stopped Ended e = absurd (went_at e)
+  turn_stopped Paused e =
+      let g = went_at e in
       let b = ltb-false 0 left g.1 in
       (spent_on (under w) (given-sound w f.given) left s f.sound waits (omega arith) g.0, g.2)
-
-  pub turn-full : o ≡ NoRoom → TurnAs (under w) left s To.NoRoom s'
-  unfolding TurnAs Went
-  turn-full e =
-      let g = subst (λ o. Went (under w) (ltb 0 left) s 0 o s') e went in
+  turn_stopped NoRoom e =
+      let g = went_at e in
       (full_on (under w) (given-sound w f.given) left s f.sound waits (may g.0) g.1, g.2)
     where
       may : (one_made (rule_at (under w) s 0) ≡ 0) ⊎ (ltb 0 left ≡ true) → (one_made (rule_at (under w) s 0) ≡ 0) ⊎ (0 < left)

@@ -1,11 +1,5 @@
 -- One law for each way out of an interaction.
-use mathlib.Core.Path.{◌≡◌, refl, ap, sym, ◌∙◌}
-use mathlib.Core.Bool.{Bool, true, false}
-use mathlib.Core.List.{List, [], ◌∷◌}
-use Prim.Native.Nat.{ℕ, suc, ◌+◌, ◌-◌, ◌<◌, ◌≤◌, pred}
-use native.Mathlib.Omega.{arith}
-use lib.ListN.{length, get_or}
-use borrow.Author.Tests.{leb-true, le-leb}
+use Rattle.std.proofs.Common.{◌≡◌, refl, ap, sym, ◌∙◌, Bool, true, false, Ok, Err, List, [], ◌∷◌, ℕ, suc, ◌+◌, ◌-◌, ◌<◌, ◌≤◌, pred, arith, length, get_or, leb-true, le-leb}
 use Rattle.parts.specs.Limits.{cells_max, names_max, waiting_max}
 use Rattle.model.specs.State.{St, used}
 use Rattle.model.specs.Table.{Entry}
@@ -19,10 +13,10 @@ use Rattle.texts.proofs.Beneath.Tools.{both, pair}
 use Rattle.kept.specs.Right.{Right}
 use Rattle.kept.specs.declared.Kept.{Kept}
 use Rattle.firing.specs.Built.{equations_of, cells_of, names_of}
-use Rattle.firing.specs.Fires.{Firing}
+use Rattle.firing.specs.Fires.{Pairing}
 use Rattle.machine.proofs.Sounds.{right_out}
 use Rattle.machine.specs.Meets.{Countable, room_test, Interactable, Interacting}
-use Rattle.machine.specs.declared.outcome.Outcome.TheVariants.{Interacted, Spent, NoRoom}
+use Rattle.machine.specs.declared.outcome.Stop.TheVariants.{Paused, NoRoom}
 
 few-used : (l : List ℕ) → used l ≤ length l
 few-used [] = omega arith
@@ -98,7 +92,7 @@ full e a b s h = go (Step.room e s)
     go (no k) = refl
 
 module _ (w : List ℕ) (i a b k : ℕ) (s : St) (q : Kept) (may : Bool) (f : Interactable w i a b k s) (g : Right q s) where
-  pub spent : may ≡ false → Interacting (entry_at w i) may a b k s Spent s
+  pub spent : may ≡ false → Interacting (entry_at w i) may a b k s (Err Paused) s
   unfolding Interacting
   spent e = (e, refl)
 
@@ -123,7 +117,7 @@ module _ (w : List ℕ) (i a b k : ℕ) (s : St) (q : Kept) (may : Bool) (f : In
         go (ℕ.suc m) e = omega arith
 
     module _ (yes : may ≡ true) (r : Bool) (asked : r ≡ room_test w i (n - 1) q) where
-      pub no_room : r ≡ false → Interacting (entry_at w i) may a b k s NoRoom s
+      pub no_room : r ≡ false → Interacting (entry_at w i) may a b k s (Err NoRoom) s
       unfolding Interacting
       no_room e =
           (yes, full (entry_at w i) a b (out_of_waiting k s) (λ h. never (sym (is_room w i k s q g (n - 1) less h) ∙ (sym asked ∙ e))), refl)
@@ -132,27 +126,27 @@ module _ (w : List ℕ) (i a b k : ℕ) (s : St) (q : Kept) (may : Bool) (f : In
         has_room : Room (entry_at w i) (out_of_waiting k s)
         has_room = room_is w i k s q g (n - 1) less (sym asked ∙ room)
 
-        pub ready_to_fire : Firing w i a b q s₁
+        pub pair_to_fire : Pairing a b s₁
         unfolding out_of_waiting
-        ready_to_fire =
+        pair_to_fire =
             rw out
             (record {
-              ruled = f.ruled;
-              pairing =
-                  record {
-                    first = f.pairing.first;
-                    second = f.pairing.second;
-                    apart = f.pairing.apart;
-                    symbols = f.pairing.symbols;
-                    arguments = f.pairing.arguments;
-                    names = f.pairing.names;
-                  };
-              room = has_room;
-              right = right_out s k q g;
+              first = f.pairing.first;
+              second = f.pairing.second;
+              apart = f.pairing.apart;
+              symbols = f.pairing.symbols;
+              arguments = f.pairing.arguments;
+              names = f.pairing.names;
             })
 
+        pub room_to_fire : Room (entry_at w i) s₁
+        room_to_fire = rw out has_room
+
+        pub right_to_fire : Right q s₁
+        right_to_fire = rw out (right_out s k q g)
+
         pub interacted : (s₂ : St) (q₂ : Kept) → s₂ ≡ fired (entry_at w i) a b s₁ → Right q₂ s₂
-            → Interacting (entry_at w i) may a b k s (Interacted q₂) s₂
+            → Interacting (entry_at w i) may a b k s (Ok (record { kept = q₂; interacted = true })) s₂
         unfolding Interacting
         interacted s₂ q₂ e h =
-            (yes, fires (entry_at w i) a b (out_of_waiting k s) has_room ∙ ap moved (sym (e ∙ ap (fired (entry_at w i) a b) out)), h)
+            (refl, yes, fires (entry_at w i) a b (out_of_waiting k s) has_room ∙ ap moved (sym (e ∙ ap (fired (entry_at w i) a b) out)), h)

@@ -1,12 +1,6 @@
 -- One law for each way out of the functions by which two cells meet.
-use mathlib.Core.Path.{◌≡◌, refl, ap, ap₂, ◌∙◌}
-use mathlib.Core.Bool.{Bool, false}
-use mathlib.Core.List.{List}
-use Prim.Native.Nat.{ℕ, ◌+◌, ◌-◌, ◌*◌, ◌<◌, ◌≤◌, pred}
-use native.Mathlib.Omega.{arith}
-use lib.Dec.{leb}
-use lib.ListN.{get_or}
-use borrow.Author.Tests.{le-leb, lt-leb}
+use Rattle.std.proofs.Common.{◌≡◌, refl, ap, ap₂, sym, ◌∙◌, Bool, true, false, Option, List, ℕ, ◌+◌, ◌-◌, ◌*◌, ◌<◌, ◌≤◌, pred, arith, leb, get_or, le-leb}
+use borrow.Author.Tests.{lt-leb}
 use Rattle.parts.specs.Limits.{symbols_max, cells_max, names_max, stuck_max, waiting_max}
 use Rattle.parts.specs.Typed.{pair, number}
 use Rattle.parts.specs.declared.CellNo.{CellNo}
@@ -27,6 +21,9 @@ use Rattle.kept.specs.declared.Kept.{Kept}
 use Rattle.firing.specs.Built.{equations_of, cells_of, names_of}
 use Rattle.machine.specs.Meets.{Symbolled, room_test, Stickable, stuck_on}
 
+true_not_false : {A : Type 0} → true ≡ false → A
+true_not_false e = absurd (let z : ◌≡◌ {A = ℕ} 0 1 = cc in omega arith)
+
 -- `symbol_at`
 pub symbol_is : (s : St) (c v : ℕ) → v ≡ get_or s.symbols c 0 → v - 1 ≡ symbol_of c s
 symbol_is s c v e = less v ∙ ap pred e
@@ -42,33 +39,41 @@ first_small w a b s l f e = omega (arith, f.left)
 pub second-small : (w : List ℕ) (a b : ℕ) (s : St) (l : ℕ) → Symbolled w a b s → l ≡ symbol_of b s → l < symbols_max
 second-small w a b s l f e = omega (arith, f.right)
 
-pub rule_is : (w : List ℕ) (a b : ℕ) (s : St) (l r : ℕ) (m : Match) → Symbolled w a b s → l ≡ symbol_of a s → r ≡ symbol_of b s
+pub rule_is : (w : List ℕ) (a b : ℕ) (s : St) (l r : ℕ) (m : Option Match) → Symbolled w a b s → l ≡ symbol_of a s → r ≡ symbol_of b s
     → ((t : Coded.Table) → w ≡ bytes_of t → m ≡ matched (find t.rules 0 l r)) → m ≡ matched (rule_of (under w) a b s)
 unfolding under Coded.machine
 rule_is w a b s l r m f e q g = g (Layout.view w) f.usable.exact ∙ ap₂ (λ l r. matched (find (under w).rules 0 l r)) e q
 
 -- `room`
 module _ (w : List ℕ) (i waits : ℕ) (k : Kept) (c₀ c : ℕ) (ec₀ : c₀ ≡ cells_of w i) (ec : c ≡ c₀) where
-  pub room-cells : cells_max < k.cells - 2 + c → false ≡ room_test w i waits k
-  unfolding room_test
-  room-cells h = let e : c ≡ cells_of w i = ec ∙ ec₀ in rw (← e, lt-leb (k.cells - 2 + c) cells_max h)
+  cells_are : c ≡ cells_of w i
+  cells_are = ec ∙ ec₀
 
-  module _ (fit : k.cells - 2 + c ≤ cells_max) (n₀ n : ℕ) (en₀ : n₀ ≡ names_of w i) (en : n ≡ n₀) where
-    pub room-names : names_max < k.names + n → false ≡ room_test w i waits k
+  module _ (v : Bool) (f : cells_max < k.cells - 2 + c) (e : v ≡ leb (k.cells - 2 + c) cells_max) where
+    pub room-cells : v ≡ room_test w i waits k
     unfolding room_test
-    room-names h =
-        let e : c ≡ cells_of w i = ec ∙ ec₀ in
+    room-cells = let z : c ≡ cells_of w i = cells_are in e ∙ rw (← z, lt-leb (k.cells - 2 + c) cells_max f)
+
+    pub room_none : {A : Type 0} → v ≡ true → A
+    room_none t = true_not_false (sym t ∙ e ∙ lt-leb (k.cells - 2 + c) cells_max f)
+
+  module _ (fit : k.cells - 2 + c ≤ cells_max) (n₀ n : ℕ) (en₀ : n₀ ≡ names_of w i) (en : n ≡ n₀) (v : Bool) (e : v ≡ leb (k.names + n) names_max) where
+    pub room-names : v ≡ false → v ≡ room_test w i waits k
+    unfolding room_test
+    room-names f =
+        let z : c ≡ cells_of w i = cells_are in
         let g : n ≡ names_of w i = en ∙ en₀ in
-        rw (← e, ← g, le-leb (k.cells - 2 + c) cells_max fit, lt-leb (k.names + n) names_max h)
+        let h : leb (k.names + n) names_max ≡ false = sym e ∙ f in
+        f ∙ rw (← z, ← g, le-leb (k.cells - 2 + c) cells_max fit, h)
 
-    pub room_all : (m₀ m : ℕ) (r : Bool) → m₀ ≡ equations_of w i → m ≡ m₀ → k.names + n ≤ names_max → r ≡ leb (waits + m) waiting_max
-        → r ≡ room_test w i waits k
+    pub room_all : (m₀ m : ℕ) → v ≡ true → m₀ ≡ equations_of w i → m ≡ m₀ → leb (waits + m) waiting_max ≡ room_test w i waits k
     unfolding room_test
-    room_all m₀ m r em₀ em h q =
-        let e : c ≡ cells_of w i = ec ∙ ec₀ in
+    room_all m₀ m f em₀ em =
+        let z : c ≡ cells_of w i = cells_are in
         let g : n ≡ names_of w i = en ∙ en₀ in
         let d : m ≡ equations_of w i = em ∙ em₀ in
-        q ∙ rw (← e, ← g, ← d, le-leb (k.cells - 2 + c) cells_max fit, le-leb (k.names + n) names_max h)
+        let h : leb (k.names + n) names_max ≡ true = sym e ∙ f in
+        rw (← z, ← g, ← d, le-leb (k.cells - 2 + c) cells_max fit, h)
 
 -- `stick`
 module _ (s s₁ s₂ : St) (a b : CellNo) (k : ℕ) (q : Equation) (f : Stickable a.0 b.0 k s) (is : q ≡ record { left = Cell a; right = Cell b }) (out : s₁ ≡ out_of_waiting k s) where

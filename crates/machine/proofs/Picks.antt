@@ -1,11 +1,5 @@
 -- One law for each way out of a step on a picked equation.
-use mathlib.Core.Path.{◌≡◌, refl, ap, ap₂, sym, ◌∙◌}
-use mathlib.Core.Bool.{Bool, true, false}
-use mathlib.Core.List.{List}
-use mathlib.Core.Logic.{inl, inr}
-use Prim.Native.Nat.{ℕ, ◌+◌, ◌-◌, ◌*◌, ◌<◌, ◌≤◌}
-use native.Mathlib.Omega.{arith}
-use borrow.Author.Tests.{eq-eqb, ne_eqb}
+use Rattle.std.proofs.Common.{◌≡◌, refl, ap, ap₂, subst, sym, ◌∙◌, Bool, true, false, Result, Ok, Err, List, inl, inr, ℕ, ◌+◌, ◌-◌, ◌*◌, ◌<◌, ◌≤◌, arith, eqb, eq-eqb, ne_eqb}
 use Rattle.parts.specs.Limits.{names_max, waiting_max, loops_max}
 use Rattle.parts.specs.Sides.{cell, ◌:=◌}
 use Rattle.parts.specs.Typed.{plain, pair, number}
@@ -29,22 +23,23 @@ use Rattle.wiring.proofs.Modelled.{wires}
 use Rattle.wiring.specs.Wiring.{loop_here, Ready, wired}
 use Rattle.machine.proofs.Sounds.{live_small, right_out, sides_live, Shown, as_is, turned_round, steps_by, pickable}
 use Rattle.machine.specs.Picked.{full_loop, Pickable, Linking, Steppable, Went}
-use Rattle.machine.specs.Meets.{Meetable, Meeting}
-use Rattle.machine.specs.declared.outcome.Outcome.{Outcome}
-use Rattle.machine.specs.declared.outcome.Outcome.TheVariants.{Linked, Interacted, Spent, NoRoom}
+use Rattle.machine.specs.Meets.{Counted, Meetable, Meeting}
+use Rattle.machine.specs.declared.outcome.Made.{Made}
+use Rattle.machine.specs.declared.outcome.Stop.{Stop}
+use Rattle.machine.specs.declared.outcome.Stop.TheVariants.{Ended, Paused, NoRoom}
 
 -- `uncountable`
 pub full-asked : (s : St) (l r : Side) (n : ℕ) (t : Bool) → n ≡ s.loops → n ≡ loops_max → t ≡ loop_here l r s → t ≡ full_loop l r s
 unfolding full_loop
 full-asked s l r n t e f q = rw (eq-eqb s.loops loops_max (sym e ∙ f)) q
 
-pub not_full : (s : St) (l r : Side) (n : ℕ) → n ≡ s.loops → ¬ (n ≡ loops_max) → false ≡ full_loop l r s
+pub not_full : (s : St) (l r : Side) (n : ℕ) → n ≡ s.loops → ¬ (n ≡ loops_max) → eqb n loops_max ≡ full_loop l r s
 unfolding full_loop
-not_full s l r n e f = rw (ne_eqb s.loops loops_max (λ q. f (e ∙ q)))
+not_full s l r n e f = ne_eqb n loops_max f ∙ rw (ne_eqb s.loops loops_max (λ q. f (e ∙ q)))
 
 -- `wire_picked`
 module _ (s : St) (l r : Side) (k : ℕ) (f : Pickable l r k s) (t : Bool) (told : t ≡ full_loop l r s) where
-  pub link-full : t ≡ true → Linking l r k s NoRoom s
+  pub link-full : t ≡ true → Linking l r k s (Err NoRoom) s
   unfolding Linking
   link-full e = (f.full (sym told ∙ e), refl)
 
@@ -56,12 +51,12 @@ module _ (s : St) (l r : Side) (k : ℕ) (f : Pickable l r k s) (t : Bool) (told
     pub link_right : (q : Kept) → Right q s → Right q s₁
     link_right q g = rw out (right_out s k q g)
 
-    pub linked : (s₂ : St) (q : Kept) → Came s₂ q (wired l r s₁) → Linking l r k s (Linked q) s₂
+    pub linked : (s₂ : St) (q : Kept) → Came s₂ q (wired l r s₁) → Linking l r k s (Ok (record { kept = q; interacted = false })) s₂
     unfolding Linking
     linked s₂ q c =
         let w : wire (plain l) (plain r) (out_of_waiting k s) ≡ moved (wired l r (out_of_waiting k s)) =
         wires l r (out_of_waiting k s) (f.free (sym told ∙ free)) in
-        (w ∙ ap moved (sym (c.is ∙ ap (wired l r) out)), c.right)
+        (refl, w ∙ ap moved (sym (c.is ∙ ap (wired l r) out)), c.right)
 
 -- `step_on`: the place, and the equation there
 module _ (w : List ℕ) (s : St) (p : ℕ) (f : Steppable w s p) (n : ℕ) (many : n ≡ s.waiting.used) where
@@ -118,25 +113,28 @@ module _ (w : List ℕ) (s : St) (p : ℕ) (f : Steppable w s p) (n : ℕ) (many
     none_there (as_is q) = ap (λ q. one_made (rule_for (under w) q s)) q
     none_there (turned_round q) = ap (λ q. one_made (rule_for (under w) q s)) q
 
-    went_linking : {l r : Side} (o : Outcome) (may : Bool) (s' : St) → Shown (picked s p) l r → Linking l r (n - 1 - p) s o s'
+    went_linking : {l r : Side} (o : Result Made Stop) (may : Bool) (s' : St) → Shown (picked s p) l r → Linking l r (n - 1 - p) s o s'
         → Went (under w) may s p o s'
     unfolding Linking Went
-    went_linking (Linked q) may s' c (e, g) =
-        (none_there c, steps_by (given-sound w f.given) s f.sound p (n - 1 - p) f.waits at c ∙ e, g)
-    went_linking (Interacted q) may s' c g = absurd g
-    went_linking Spent may s' c g = absurd g
-    went_linking NoRoom may s' c (e, g) =
+    went_linking (Ok m) may s' c (z, e, g) = (
+      subst (Counted (one_made (rule_at (under w) s p)) may) (sym z) (none_there c),
+      steps_by (given-sound w f.given) s f.sound p (n - 1 - p) f.waits at c ∙ e,
+      g,
+    )
+    went_linking (Err Ended) may s' c g = absurd g
+    went_linking (Err Paused) may s' c g = absurd g
+    went_linking (Err NoRoom) may s' c (e, g) =
         (inl (none_there c), steps_by (given-sound w f.given) s f.sound p (n - 1 - p) f.waits at c ∙ e, g)
 
-    pub went-name : (x : NameNo) (o : Outcome) (may : Bool) (s' : St) → e.left ≡ Name x → Linking (Name x) e.right (n - 1 - p) s o s'
+    pub went-name : (x : NameNo) (o : Result Made Stop) (may : Bool) (s' : St) → e.left ≡ Name x → Linking (Name x) e.right (n - 1 - p) s o s'
         → Went (under w) may s p o s'
     went-name x o may s' l g = went_linking o may s' (shown x l) g
 
-    pub went-turned : (a : CellNo) (y : NameNo) (o : Outcome) (may : Bool) (s' : St) → e.left ≡ Cell a → e.right ≡ Name y
+    pub went-turned : (a : CellNo) (y : NameNo) (o : Result Made Stop) (may : Bool) (s' : St) → e.left ≡ Cell a → e.right ≡ Name y
         → Linking (Name y) (Cell a) (n - 1 - p) s o s' → Went (under w) may s p o s'
     went-turned a y o may s' l r g = went_linking o may s' (shown-turned a y l r) g
 
-    pub went-cells : (a b : CellNo) (o : Outcome) (may : Bool) (s' : St) → e.left ≡ Cell a → e.right ≡ Cell b
+    pub went-cells : (a b : CellNo) (o : Result Made Stop) (may : Bool) (s' : St) → e.left ≡ Cell a → e.right ≡ Cell b
         → Meeting (under w) may a.0 b.0 (n - 1 - p) s o s' → Went (under w) may s p o s'
     unfolding Meeting Went out_of_waiting
     went-cells a b o may s' l r = go o
@@ -153,8 +151,8 @@ module _ (w : List ℕ) (s : St) (p : ℕ) (f : Steppable w s p) (n : ℕ) (many
             ∙ (ap (λ q. act (under w) q (taken_out (place s p) s)) both
             ∙ ap (λ m. meet (under w) a.0 b.0 (taken_out m s)) (sym at))
 
-        go : (o : Outcome) → Meeting (under w) may a.0 b.0 (n - 1 - p) s o s' → Went (under w) may s p o s'
-        go (Linked q) (m, e, g) = (made ∙ m, steps ∙ e, g)
-        go (Interacted q) (m, y, e, g) = (made ∙ m, y, steps ∙ e, g)
-        go Spent (m, y, e) = (made ∙ m, y, e)
-        go NoRoom (m, y, e, g) = (inr y, steps ∙ e, g)
+        go : (o : Result Made Stop) → Meeting (under w) may a.0 b.0 (n - 1 - p) s o s' → Went (under w) may s p o s'
+        go (Ok q) (m, e, g) = (subst (λ n. Counted n may q.interacted) (sym made) m, steps ∙ e, g)
+        go (Err Ended) g = absurd g
+        go (Err Paused) (m, y, e) = (made ∙ m, y, e)
+        go (Err NoRoom) (m, y, e, g) = (inr y, steps ∙ e, g)

@@ -1,12 +1,5 @@
 -- A rule of a table that passes its test can be read in place.
-use Prim.Native.Nat.{ℕ, ◌+◌, ◌*◌, ◌<◌, ◌≤◌}
-use mathlib.Core.Path.{◌≡◌, refl, ap, subst}
-use mathlib.Core.Bool.{Bool, true, false, cond, not, ◌&&◌}
-use mathlib.Core.List.{List, [], ◌∷◌, ◌++◌}
-use native.Mathlib.Omega.{arith}
-use lib.Dec.{leb, ltb}
-use lib.ListN.{length, get_or}
-use borrow.Author.Tests.{ltb-true}
+use Rattle.std.proofs.Common.{ℕ, ◌+◌, ◌*◌, ◌<◌, ◌≤◌, ◌≡◌, refl, ap, subst, Bool, true, false, cond, not, ◌&&◌, List, [], ◌∷◌, ◌++◌, arith, leb, ltb, length, get_or, ltb-true}
 use Rattle.parts.specs.Limits.{arity_max, symbols_max, rules_max}
 use Rattle.parts.specs.Sides.{Side, name, cell, Pair, ◌:=◌, side}
 use Rattle.model.specs.Table.{Cell, Entry, no_cell, no_entry}

@@ -1,12 +1,5 @@
 -- What a sound state gives to a step on one of its equations.
-use mathlib.Core.Path.{◌≡◌, refl, ap, subst, sym, ◌∙◌}
-use mathlib.Core.Bool.{Bool, true, false}
-use mathlib.Core.Logic.{◌⊎◌, inl, inr}
-use Prim.Native.Nat.{ℕ, suc, ◌*◌, ◌<◌, ◌≤◌, pred}
-use native.Mathlib.Omega.{arith}
-use lib.Dec.{eqb}
-use lib.ListN.{get_or}
-use borrow.Author.Tests.{eq-eqb, eqb-true}
+use Rattle.std.proofs.Common.{◌≡◌, refl, ap, subst, sym, ◌∙◌, Bool, true, false, ◌⊎◌, inl, inr, ℕ, suc, ◌*◌, ◌<◌, ◌≤◌, pred, arith, eqb, get_or, eq-eqb, eqb-true}
 use Rattle.parts.specs.Limits.{cells_max, names_max, waiting_max, loops_max}
 use Rattle.parts.specs.Sides.{name, cell, Pair, ◌:=◌, code, side}
 use Rattle.parts.specs.Codes.{code-side}

@@ -1,20 +1,20 @@
 -- What the public calls promise: the answer by document 01's number, and the state afterwards.
-use Rattle.std.specs.Prelude.{List, ℕ}
+use Rattle.std.specs.Prelude.{List, ℕ, Result, Ok, Err}
 use Rattle.std.proofs.Math.Decide.{dec_lt}
+use Rattle.parts.specs.Faults.{fault_number}
 use Rattle.parts.specs.Limits.{budget_max}
+use Rattle.parts.specs.declared.faults.Fault.{Fault}
 use Rattle.model.specs.State.{St}
 use Rattle.model.specs.Step.{Answer, moved, refused}
 use Rattle.model.specs.Stepped.{stepped}
 use Rattle.model.specs.Table.{Table}
 use Rattle.model.specs.Run.{ran}
-use Rattle.model.specs.Walk.{Stop, ended, paused, noroom, Ran}
+use Rattle.model.specs.Walk.{Stop, Ran}
 use Rattle.state.specs.Layout.{view}
 use Rattle.sound.specs.Lent.{under}
 use Rattle.lent.specs.Decided.{if_sound}
-use Rattle.machine.specs.declared.calls.StepAnswer.{StepAnswer}
-use Rattle.machine.specs.declared.calls.StepAnswer.TheVariants.{Moved, Unsound, NoPick, NoRoom}
-use Rattle.machine.specs.declared.calls.RunAnswer.{RunAnswer}
-use Rattle.machine.specs.declared.calls.RunAnswer.TheVariants as Run
+use Rattle.machine.specs.Turns.{stop_of}
+use Rattle.machine.specs.declared.calls.Ran as Code
 
 -- Made; or stopped for a reason, with the interactions made; or refused by a number.
 pub data Told : Type 0 where
@@ -30,11 +30,9 @@ pub record Out : Type 0 where
 abbrev pub out : Told → St → Out
 out t s = record { told = t; state = s }
 
-abbrev pub step_told : StepAnswer → Told
-step_told Moved = made
-step_told Unsound = number 16
-step_told NoPick = number 12
-step_told NoRoom = number 13
+abbrev pub step_told : Result (Unit {0}) Fault → Told
+step_told (Ok u) = made
+step_told (Err f) = number (fault_number f)
 
 -- What the model answers; a refused call leaves the state as it was.
 abbrev pub answered : Answer → St → Out
@@ -44,12 +42,12 @@ answered (refused n) s = out (number n) s
 unfoldable pub step_called : List ℕ → List ℕ → ℕ → Out
 step_called w v p = if_sound w v (answered (stepped (under w) (view v) p) (view v)) (out (number 16) (view v))
 
-abbrev pub run_told : RunAnswer → Told
-run_told (Run.Ended n) = stopped ended n
-run_told (Run.Paused n) = stopped paused n
-run_told (Run.NoRoom n) = stopped noroom n
-run_told Run.Unsound = number 16
-run_told Run.TooMuch = number 17
+abbrev pub ran_told : Code.Ran → Told
+ran_told r = stopped (stop_of r.stop) r.made
+
+abbrev pub run_told : Result Code.Ran Fault → Told
+run_told (Ok r) = ran_told r
+run_told (Err f) = number (fault_number f)
 
 -- A stopped run leaves the state after the last step made.
 abbrev pub stood : Ran → Out

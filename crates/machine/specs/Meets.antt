@@ -1,5 +1,5 @@
 -- What two cells that are picked ask, and what comes of them, by the model's `meet`.
-use Rattle.std.specs.Prelude.{◌≡◌, Bool, true, false, ◌&&◌, List, ℕ, ◌+◌, ◌-◌, ◌<◌, ◌≤◌, leb, get_or}
+use Rattle.std.specs.Prelude.{◌≡◌, Bool, true, false, ◌&&◌, List, ℕ, ◌+◌, ◌-◌, ◌<◌, ◌≤◌, leb, get_or, Result, Ok, Err}
 use Rattle.parts.specs.Limits.{symbols_max, cells_max, names_max, stuck_max, waiting_max}
 use Rattle.parts.specs.Sides.{cell, ◌:=◌}
 use Rattle.model.specs.State.{St, equation}
@@ -16,8 +16,9 @@ use Rattle.kept.specs.Right.{Right}
 use Rattle.kept.specs.declared.Kept.{Kept}
 use Rattle.firing.specs.Built.{Ruled, equations_of, cells_of, names_of}
 use Rattle.firing.specs.Fires.{Pairing}
-use Rattle.machine.specs.declared.outcome.Outcome.{Outcome}
-use Rattle.machine.specs.declared.outcome.Outcome.TheVariants.{Linked, Interacted, Spent, NoRoom}
+use Rattle.machine.specs.declared.outcome.Made.{Made}
+use Rattle.machine.specs.declared.outcome.Stop.{Stop}
+use Rattle.machine.specs.declared.outcome.Stop.TheVariants.{Ended, Paused, NoRoom}
 
 -- A cell in use.
 pub record InUse (c : ℕ) (s : St) : Type 0 where
@@ -62,12 +63,17 @@ pub record Interactable (w : List ℕ) (i a b k : ℕ) (s : St) : Type 0 where
   pub pullable : Pullable k s
   pub pairing : Pairing a b s
 
-unfoldable pub Interacting : Entry → Bool → ℕ → ℕ → ℕ → St → Outcome → St → Type 0
-Interacting e may a b k s (Linked q) s' = ⊥
-Interacting e may a b k s (Interacted q) s' =
-    (may ≡ true) × (fire_if e a b (out_of_waiting k s) ≡ moved s') × Right q s'
-Interacting e may a b k s Spent s' = (may ≡ false) × (s' ≡ s)
-Interacting e may a b k s NoRoom s' = (may ≡ true) × (fire_if e a b (out_of_waiting k s) ≡ refused 13) × (s' ≡ s)
+-- Of a step that was made: whether it was an interaction, by the interactions that the model counts for it.
+abbrev pub Counted : ℕ → Bool → Bool → Type 0
+Counted n may false = n ≡ 0
+Counted n may true = (n ≡ 1) × (may ≡ true)
+
+unfoldable pub Interacting : Entry → Bool → ℕ → ℕ → ℕ → St → Result Made Stop → St → Type 0
+Interacting e may a b k s (Ok m) s' =
+    (m.interacted ≡ true) × (may ≡ true) × (fire_if e a b (out_of_waiting k s) ≡ moved s') × Right m.kept s'
+Interacting e may a b k s (Err Ended) s' = ⊥
+Interacting e may a b k s (Err Paused) s' = (may ≡ false) × (s' ≡ s)
+Interacting e may a b k s (Err NoRoom) s' = (may ≡ true) × (fire_if e a b (out_of_waiting k s) ≡ refused 13) × (s' ≡ s)
 
 -- Two cells that are the sides of equation number k from the start. An interaction is made only where it may be.
 pub record Meetable (w : List ℕ) (a b k : ℕ) (s : St) : Type 0 where
@@ -76,11 +82,10 @@ pub record Meetable (w : List ℕ) (a b k : ℕ) (s : St) : Type 0 where
   pub waits : k < s.waiting.used
   pub is : equation k s.waiting.words ≡ (cell a := cell b)
 
-unfoldable pub Meeting : Table → Bool → ℕ → ℕ → ℕ → St → Outcome → St → Type 0
-Meeting T may a b k s (Linked q) s' =
-    (one_made (rule_of T a b s) ≡ 0) × (meet T a b (out_of_waiting k s) ≡ moved s') × Right q s'
-Meeting T may a b k s (Interacted q) s' =
-    (one_made (rule_of T a b s) ≡ 1) × (may ≡ true) × (meet T a b (out_of_waiting k s) ≡ moved s') × Right q s'
-Meeting T may a b k s Spent s' = (one_made (rule_of T a b s) ≡ 1) × (may ≡ false) × (s' ≡ s)
-Meeting T may a b k s NoRoom s' =
+unfoldable pub Meeting : Table → Bool → ℕ → ℕ → ℕ → St → Result Made Stop → St → Type 0
+Meeting T may a b k s (Ok m) s' =
+    Counted (one_made (rule_of T a b s)) may m.interacted × (meet T a b (out_of_waiting k s) ≡ moved s') × Right m.kept s'
+Meeting T may a b k s (Err Ended) s' = ⊥
+Meeting T may a b k s (Err Paused) s' = (one_made (rule_of T a b s) ≡ 1) × (may ≡ false) × (s' ≡ s)
+Meeting T may a b k s (Err NoRoom) s' =
     (one_made (rule_of T a b s) ≡ 1) × (may ≡ true) × (meet T a b (out_of_waiting k s) ≡ refused 13) × (s' ≡ s)

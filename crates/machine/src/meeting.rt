@@ -9,15 +9,17 @@ ghost use Rattle.sound.specs.Lent.{under};
 ghost use Rattle.kept.specs.Right.{Right};
 ghost use Rattle.machine.specs.Meets.{InUse, Symbolled, Countable, room_test, Stickable, stuck_on, Interactable, Interacting, Meetable, Meeting};
 
-use crate::outcome::Outcome;
+use crate::outcome::{Made, Stop};
+use firing::lent_rule::LentRule;
 use firing::pairs::fire;
 use kept::Kept;
 use parts::{CellNo, Equation, Limits, Side, SymbolNo};
 use state::Pile;
 use table::Match;
-use table::reading::{cell_count, equation_count, look_up, name_count, number_of};
+use table::reading::{cell_count, equation_count, look_up, name_count};
 
 // The symbol of a cell in use.
+// Of a cell in use, so with none of the cases of `symbol_on` (crates/loading) and `symbol_of` (crates/stuck_pairs).
 fn symbol_at(state: &[u16; Limits::STATE], c: CellNo) -> SymbolNo
     requires { InUse c.0 (view state.now) }
     ensures { result.0 ≡ symbol_of c.0 (view state.now) }
@@ -31,7 +33,7 @@ fn rule_for(
     state: &[u16; Limits::STATE],
     a: CellNo,
     b: CellNo,
-) -> Match
+) -> Option<Match>
     requires { Symbolled table.now a.0 b.0 (view state.now) }
     ensures { result ≡ matched (rule_of (under table.now) a.0 b.0 (view state.now)) }
 {
@@ -45,16 +47,12 @@ fn room(table: &[u8; Limits::TABLE], rule: u16, waits: u16, k: Kept) -> bool
     requires { (rule < rules_max) × Countable waits k }
     ensures { result ≡ room_test table.now rule waits k }
 {
-    let cells = k.cells - 2 + number_of(cell_count(table, rule));
-    let names = k.names + number_of(name_count(table, rule));
-    let equations = waits + number_of(equation_count(table, rule));
-    if (Limits::CELLS as u16) < cells {
-        return false;
-    }
-    if (Limits::NAMES as u16) < names {
-        return false;
-    }
-    equations <= (Limits::WAITING as u16)
+    let cells = k.cells - 2 + u16::from(cell_count(table, rule));
+    let names = k.names + u16::from(name_count(table, rule));
+    let equations = waits + u16::from(equation_count(table, rule));
+    cells <= (Limits::CELLS as u16)
+        && names <= (Limits::NAMES as u16)
+        && equations <= (Limits::WAITING as u16)
 }
 
 // "pair goes to the head of the stuck list"
@@ -70,6 +68,7 @@ fn stick(state: &mut [u16; Limits::STATE], place: u16, a: CellNo, b: CellNo)
     state::put_at_head(state, Pile::Stucks, e);
 }
 
+// The two cells, the place of their equation and what is kept are of one state behind a `&mut`, so the facts on them stand in the clauses.
 // An interaction, if it may be made and there is room.
 fn interact(
     table: &[u8; Limits::TABLE],
@@ -80,19 +79,26 @@ fn interact(
     b: CellNo,
     may: bool,
     k: Kept,
-) -> Outcome
+) -> Result<Made, Stop>
     requires { Interactable table.now rule a.0 b.0 place (view state.old) × Right k (view state.old) }
     ensures { Interacting (entry_at table.now rule) may a.0 b.0 place (view state.old) result (view state.new) }
 {
-    if may {
-        let waits = state::count(state, Pile::Waits) - 1;
-        if room(table, rule, waits, k) {
-            state::take_out(state, place);
-            return Outcome::Interacted(fire(table, state, rule, a, b, k));
-        }
-        return Outcome::NoRoom;
+    if !may {
+        return Err(Stop::Paused);
     }
-    Outcome::Spent
+    let waits = state::count(state, Pile::Waits) - 1;
+    if !room(table, rule, waits, k) {
+        return Err(Stop::NoRoom);
+    }
+    state::take_out(state, place);
+    let lent = LentRule {
+        table,
+        number: rule,
+    };
+    Ok(Made {
+        kept: fire(lent, state, a, b, k),
+        interacted: true,
+    })
 }
 
 // "A pair is matched whichever side is which".
@@ -104,16 +110,19 @@ pub fn meet_picked(
     b: CellNo,
     may: bool,
     k: Kept,
-) -> Outcome
+) -> Result<Made, Stop>
     requires { Meetable table.now a.0 b.0 place (view state.old) × Right k (view state.old) }
     ensures { Meeting (under table.now) may a.0 b.0 place (view state.old) result (view state.new) }
 {
     match rule_for(table, state, a, b) {
-        Match::Nothing => {
+        None => {
             stick(state, place, a, b);
-            Outcome::Linked(k)
+            Ok(Made {
+                kept: k,
+                interacted: false,
+            })
         }
-        Match::Straight(i) => interact(table, state, place, i, a, b, may, k),
-        Match::Turned(i) => interact(table, state, place, i, b, a, may, k),
+        Some(Match::Straight(i)) => interact(table, state, place, i, a, b, may, k),
+        Some(Match::Turned(i)) => interact(table, state, place, i, b, a, may, k),
     }
 }

@@ -1,15 +1,20 @@
-// What a step came to.
+// What a step came to, and why a run stops.
 use kept::Kept;
 
-// The budget is asked before the room.
+// A step that was made: what is kept after it, and whether it was an interaction.
 #[derive(Clone, Copy)]
-pub enum Outcome {
-    // no interaction: wired, counted as a loop, or stuck
-    Linked(Kept),
-    // an interaction
-    Interacted(Kept),
-    // nothing, since it is an interaction and none may be made
-    Spent,
-    // nothing, since there is no room
+pub struct Made {
+    pub kept: Kept,
+    pub interacted: bool,
+}
+
+// Why no step was made, with nothing changed. The budget is asked before the room.
+#[derive(Clone, Copy)]
+pub enum Stop {
+    // nothing waits
+    Ended,
+    // the head is an interaction and the budget is spent
+    Paused,
+    // there is no room for the step on the head
     NoRoom,
 }

@@ -6,7 +6,7 @@ ghost use Rattle.sound.specs.Lent.{under};
 ghost use Rattle.kept.specs.Right.{Right};
 ghost use Rattle.machine.specs.Turns.{enough, Turnable, TurnAs};
 
-use crate::outcome::Outcome;
+use crate::outcome::Stop;
 use crate::picking::step_on;
 use kept::Kept;
 use parts::Limits;
@@ -19,18 +19,6 @@ pub struct Running {
     pub left: u32,
 }
 
-#[derive(Clone, Copy)]
-pub enum Turn {
-    // a step was made
-    On(Running),
-    // nothing waits
-    Ended,
-    // the head is an interaction and the budget is spent
-    Paused,
-    // there is no room for the step on the head
-    NoRoom,
-}
-
 // A number of steps that suffices for a budget: between two interactions no more are made than can wait and names there are.
 pub fn enough(budget: u32) -> u32
     requires { budget ≤ budget_max }
@@ -40,24 +28,20 @@ pub fn enough(budget: u32) -> u32
 }
 
 // One turn.
-pub fn take_turn(table: &[u8; Limits::TABLE], state: &mut [u16; Limits::STATE], r: Running) -> Turn
+pub fn take_turn(
+    table: &[u8; Limits::TABLE],
+    state: &mut [u16; Limits::STATE],
+    r: Running,
+) -> Result<Running, Stop>
     requires { Turnable table.now (view state.old) × Right r.kept (view state.old) }
     ensures { TurnAs (under table.now) r.left (view state.old) result (view state.new) }
 {
-    let left = r.left;
     if state::count(state, Pile::Waits) == 0 {
-        return Turn::Ended;
+        return Err(Stop::Ended);
     }
-    match step_on(table, state, 0, 0 < left, r.kept) {
-        Outcome::Linked(k) => Turn::On(Running {
-            kept: k,
-            left: left,
-        }),
-        Outcome::Interacted(k) => Turn::On(Running {
-            kept: k,
-            left: left - 1,
-        }),
-        Outcome::Spent => Turn::Paused,
-        Outcome::NoRoom => Turn::NoRoom,
-    }
+    let done = step_on(table, state, 0, 0 < r.left, r.kept)?;
+    Ok(Running {
+        kept: done.kept,
+        left: r.left - u32::from(done.interacted),
+    })
 }

@@ -1,12 +1,7 @@
 -- The sums over places are the model's count of a name.
-use mathlib.Core.Path.{◌≡◌, refl, ap, ap₂, ◌∙◌}
-use mathlib.Core.Bool.{Bool, ◌&&◌}
-use mathlib.Core.List.{List, [], ◌∷◌, ◌++◌, map}
-use Prim.Native.Nat.{ℕ, suc, ◌+◌, ◌*◌, ◌<◌, ◌≤◌}
-use native.Mathlib.Omega.{arith}
-use lib.Dec.{eqb}
-use lib.ListN.{length, get_or, take, drop, length-drop}
-use lib.Seq.{take-suc, get_or-drop}
+use Rattle.std.specs.Prelude.{◌≡◌, refl, List, [], ◌∷◌, ◌++◌, map, filter, count_by, ℕ, suc, ◌+◌, ◌*◌, ◌<◌, ◌≤◌, eqb, length, get_or, take, drop}
+use Rattle.std.proofs.Common.{ap, ap₂, sym, ◌∙◌, arith, cond, length-drop, length-take, take-suc, get_or-drop}
+use Rattle.std.proofs.lemmas.List.Sums.{length-filter, sum_by-cons, count_by-le-length}
 use Rattle.parts.specs.Limits.{arity_max, cells_max, names_max}
 use Rattle.parts.specs.Sides.{side}
 use Rattle.model.specs.State.{St, unpack}
@@ -14,9 +9,10 @@ use Rattle.model.specs.Sound.{width, live, Sizes, mem_of}
 use Rattle.model.specs.Walk.{below}
 use Rattle.model.specs.Test.{every, is_name, times, sides_of, occurrences, twice}
 use Rattle.sound.specs.Lent.{under, Usable}
-use Rattle.name_counts.specs.Totals.{total, mark, inside, bound_once, occurring, paired}
-use Rattle.sound.proofs.Every.{Passing, pass_end}
+use Rattle.name_counts.specs.Totals.{total, Found, mark, inside, bound_once, occurring, paired}
+use Rattle.sound.proofs.Every.{every_ext}
 use Rattle.sound.proofs.Tables.{width_small}
+use Rattle.name_counts.proofs.Sums.{marked}
 
 times-append : (x : ℕ) (a b : List ℕ) → times x (map side (a ++ b)) ≡ times x (map side a) + times x (map side b)
 times-append x [] b = omega arith
@@ -51,6 +47,20 @@ module _ (x : ℕ) (l : List ℕ) where
         ap (λ i. is_name x (side (get_or l i 0))) q,
       )
 
+count-times : (x : ℕ) (l : List ℕ) → count_by (λ v. eqb v (2 * x)) l ≡ times x (map side l)
+count-times x [] = refl
+count-times x (v ∷ l) = sum_by-cons (λ v. cond (eqb v (2 * x)) 1 0) v l ∙ ap₂ ◌+◌ (marked x v) (count-times x l)
+
+pub times_way : (x : ℕ) (l : List ℕ) (from n r : ℕ) → from + n ≤ length l
+    → r ≡ length (filter (λ v. eqb v (2 * x)) (take n (drop from l))) → Found r (total n (mark x l from)) n
+times_way x l from n r h e =
+    let m = take n (drop from l) in
+    let q : r ≡ count_by (λ v. eqb v (2 * x)) m = e ∙ length-filter (λ v. eqb v (2 * x)) m in
+    record {
+      is = q ∙ count-times x m ∙ sym (row-times x l from n h);
+      few = omega (arith, q, count_by-le-length (λ v. eqb v (2 * x)) m, length-take n (drop from l));
+    }
+
 total-below : (f g : ℕ → ℕ) (n : ℕ) → ((c : ℕ) → c < n → f c ≡ g c) → total n f ≡ below n g
 unfolding total
 total-below f g ℕ.zero h = refl
@@ -71,15 +81,8 @@ module _ (w : List ℕ) (s : St) (u : Usable w) (z : Sizes s) where
       (ap₂ ◌+◌ (pairs-times x s.stuck.words s.stuck.used)
       (ap₂ ◌+◌ refl (total-below (inside (under w) s x) (λ c. times x (mem_of (under w) s c).args) cells_max (inside-times x)))))
 
-every_ext : (f g : ℕ → Bool) → ((x : ℕ) → f x ≡ g x) → (n : ℕ) → every n f ≡ every n g
-unfolding every
-every_ext f g h ℕ.zero = refl
-every_ext f g h (ℕ.suc n) = ap₂ (λ a b. a && b) (h n) (every_ext f g h n)
-
-pub twice_end : (w : List ℕ) (s : St) (i : ℕ) (ok : Bool) → Usable w × Sizes s → Passing (paired (under w) s) names_max ok i → names_max ≤ i
-    → ok ≡ twice (under w) s
+pub twice_way : (w : List ℕ) (s : St) → Usable w × Sizes s → every names_max (paired (under w) s) ≡ twice (under w) s
 unfolding twice paired
-twice_end w s i ok u p h =
-    pass_end p h
-    ∙ every_ext (paired (under w) s) (λ x. eqb (occurrences (under w) s x) (2 * live s.names x))
+twice_way w s u =
+    every_ext (paired (under w) s) (λ x. eqb (occurrences (under w) s x) (2 * live s.names x))
     (λ x. ap (λ a. eqb a (2 * live s.names x)) (same_count w s u.0 u.1 x)) names_max

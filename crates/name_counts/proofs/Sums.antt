@@ -1,23 +1,19 @@
 -- A pass that adds up, and how often a name stands in a state by such passes.
-use mathlib.Core.Path.{◌≡◌, refl, ap, ap₂, sym, ◌∙◌}
-use mathlib.Core.List.{List}
-use Prim.Native.Nat.{ℕ, ◌+◌, ◌*◌, ◌<◌, ◌≤◌}
-use native.Mathlib.Omega.{arith}
-use native.Mathlib.Numerals.{add-one}
-use native.Mathlib.Nat.{mul-add}
-use lib.Dec.{eqb}
-use lib.ListN.{get_or}
+use Rattle.std.specs.Prelude.{◌≡◌, refl, Bool, true, false, List, ℕ, suc, ◌+◌, ◌*◌, ◌<◌, ◌≤◌, leb, eqb, get_or}
+use Rattle.std.specs.Int.{from_bool}
+use Rattle.std.proofs.Common.{ap, ap₂, sym, ◌∙◌, arith, add-one, cond, mul-add, eqb-true, le-leb}
+use borrow.Author.Tests.{eqb-false}
 use Rattle.calculus.proofs.Beneath.Count.{δ_same, δ_other}
 use Rattle.parts.specs.Limits.{arity_max, cells_max}
 use Rattle.parts.specs.Sides.{Side, name, cell, side, code}
 use Rattle.parts.specs.Codes.{code-side}
 use Rattle.model.specs.State.{St, bond}
 use Rattle.model.specs.Table.{Table}
-use Rattle.model.specs.Sound.{width, live}
+use Rattle.model.specs.Sound.{width}
 use Rattle.model.specs.Follow.{hop}
 use Rattle.model.specs.Test.{is_name}
 use Rattle.sound.specs.Lent.{under}
-use Rattle.name_counts.specs.Totals.{total, Found, mark, inside, bound_once, occurring, paired}
+use Rattle.name_counts.specs.Totals.{total, Found, mark, inside, bound_once, occurring}
 
 -- found is the sum of f over the numbers below i, each at most m, where the pass goes up to n.
 pub record Summing (f : ℕ → ℕ) (n m found i : ℕ) : Type 0 where
@@ -46,10 +42,6 @@ sum_end {f} {n} {m} {found} {i} s h =
     let e : i ≡ n = omega (arith, s.high) in
     record { is = s.so_far ∙ ap (λ k. total k f) e; few = rw e at s.few }
 
--- Where each is at most one.
-pub ones_end : {f : ℕ → ℕ} {n found i : ℕ} → Summing f n 1 found i → n ≤ i → Found found (total n f) n
-ones_end s h = let e = sum_end s h in record { is = e.is; few = omega (arith, e.few) }
-
 -- One word.
 named-code : (x : ℕ) (a : Side) → code a ≡ 2 * x → is_name x a ≡ 1
 named-code x (name y) e = let q : x ≡ y = omega arith in rw q (δ_same y)
@@ -59,16 +51,12 @@ other_code : (x : ℕ) (a : Side) → ¬ (code a ≡ 2 * x) → is_name x a ≡ 
 other_code x (name y) e = δ_other (λ q. e (ap (λ z. 2 * z) (sym q)))
 other_code x (cell c) e = refl
 
-pub name-yes : (word x : ℕ) → word ≡ 2 * x → Found 1 (is_name x (side word)) 1
-name-yes word x e = record { is = sym (named-code x (side word) (code-side word ∙ e)); few = omega arith }
-
-pub name_no : (word x : ℕ) → ¬ (word ≡ 2 * x) → Found 0 (is_name x (side word)) 1
-name_no word x e = record { is = sym (other_code x (side word) (λ q. e (sym (code-side word) ∙ q))); few = omega arith }
-
-pub mark_way : (l : List ℕ) (from i x word r : ℕ) → word ≡ get_or l (from + i) 0 → Found r (is_name x (side word)) 1
-    → Found r (mark x l from i) 1
-unfolding mark
-mark_way l from i x word r e f = record { is = f.is ∙ ap (λ w. is_name x (side w)) e; few = f.few }
+pub marked : (x word : ℕ) → cond (eqb word (2 * x)) 1 0 ≡ is_name x (side word)
+marked x word = go (eqb word (2 * x)) refl
+  where
+    go : (t : Bool) → eqb word (2 * x) ≡ t → cond t 1 0 ≡ is_name x (side word)
+    go true e = sym (named-code x (side word) (code-side word ∙ eqb-true word (2 * x) e))
+    go false e = sym (other_code x (side word) (λ q. eqb-false word (2 * x) e (sym (code-side word) ∙ q)))
 
 pub inside_way : (w : List ℕ) (s : St) (x c word n r : ℕ) → word ≡ get_or s.symbols c 0
     → (n ≡ width (under w).arities word) × (n ≤ arity_max) → Found r (total n (mark x s.arguments (arity_max * c))) n
@@ -80,23 +68,19 @@ inside_way w s x c word n r ew en f =
       few = omega (arith, f.few, en.1);
     }
 
-hop_none : (n : ℕ) → n < 2 → 0 ≡ hop (bond n)
-hop_none ℕ.zero h = refl
-hop_none (ℕ.suc ℕ.zero) h = refl
-hop_none (ℕ.suc (ℕ.suc n)) h = absurd (omega arith)
+hop_is : (n : ℕ) → from_bool (leb 2 n) ≡ hop (bond n)
+hop_is ℕ.zero = refl
+hop_is (ℕ.suc ℕ.zero) = refl
+hop_is (ℕ.suc (ℕ.suc n)) = rw (le-leb 2 (suc (suc n)) (omega arith))
 
-hop_one : (n : ℕ) → 2 ≤ n → 1 ≡ hop (bond n)
-hop_one ℕ.zero h = absurd (omega arith)
-hop_one (ℕ.suc ℕ.zero) h = absurd (omega arith)
-hop_one (ℕ.suc (ℕ.suc n)) h = refl
+few_of : (t : Bool) → from_bool t ≤ 1
+few_of true = omega arith
+few_of false = omega arith
 
-pub bound_none : (s : St) (x word : ℕ) → word ≡ get_or s.names x 0 → word < 2 → Found 0 (bound_once s x) 1
+pub bound_way : (s : St) (x word r : ℕ) → word ≡ get_or s.names x 0 → r ≡ from_bool (leb 2 word) → Found r (bound_once s x) 1
 unfolding bound_once
-bound_none s x word e h = record { is = hop_none word h ∙ ap (λ n. hop (bond n)) e; few = omega arith }
-
-pub bound_one : (s : St) (x word : ℕ) → word ≡ get_or s.names x 0 → 2 ≤ word → Found 1 (bound_once s x) 1
-unfolding bound_once
-bound_one s x word e h = record { is = hop_one word h ∙ ap (λ n. hop (bond n)) e; few = omega arith }
+bound_way s x word r e f =
+    record { is = f ∙ hop_is word ∙ ap (λ n. hop (bond n)) e; few = rw f (few_of (leb 2 word)) }
 
 pub occurring_way : (T : Table) (s : St) (x f w k a b c d e : ℕ) → f ≡ s.face.used → w ≡ s.waiting.used → k ≡ s.stuck.used
     → Found a (total f (mark x s.face.words 0)) f → Found b (total (2 * w) (mark x s.waiting.words 0)) (2 * w)
@@ -105,7 +89,3 @@ pub occurring_way : (T : Table) (s : St) (x f w k a b c d e : ℕ) → f ≡ s.f
     → a + (b + (c + (d + e))) ≡ occurring T s x
 unfolding occurring
 occurring_way T s x f w k a b c d e ef ew ek fa fb fc fd fe = rw (fa.is, fb.is, fc.is, fd.is, fe.is, ef, ew, ek)
-
-pub paired_way : (T : Table) (s : St) (x a b : ℕ) → a ≡ occurring T s x → b ≡ live s.names x → eqb a (2 * b) ≡ paired T s x
-unfolding paired
-paired_way T s x a b e f = ap₂ (λ a b. eqb a (2 * b)) e f

@@ -1,7 +1,9 @@
 -- Numbers 5 and 7 on a line whose fields spell terms, after the terms of the lines before it.
-use Rattle.std.specs.Prelude.{ℕ, zero, suc, ◌≤◌, ◌<◌, ◌≡◌, Bool, true, ◌||◌, List, ◌∷◌, ◌++◌, ltb, leb, length, drop}
+use Rattle.std.specs.Prelude.{ℕ, suc, ◌≤◌, ◌<◌, ◌≡◌, Bool, true, ◌||◌, List, ◌∷◌, ◌++◌, ltb, leb, length, drop, Result, Ok, Err, OnOk, ⊤}
 use Rattle.std.proofs.Math.Option.{some}
 use Rattle.parts.specs.Limits.{text_max, arity_max, face_max, net_equations_max}
+use Rattle.parts.specs.Faults.{fault_number}
+use Rattle.parts.specs.declared.faults.Fault.{Fault}
 use Rattle.texts.specs.Bytes.{all, fields}
 use Rattle.texts.specs.Terms.{Term}
 use Rattle.texts.specs.Books.{Agent, Net, net_terms}
@@ -12,10 +14,10 @@ use Rattle.lines.specs.Names.{between}
 use Rattle.terms.specs.Sheet.{Sheet}
 use Rattle.net_lines.specs.Draft.{Draft}
 
--- The number of a line's fault, 0 where it is fine.
-unfoldable pub verdict : {A : Type 0} → ℕ → A → OfLine A
-verdict zero a = fine a
-verdict (suc n) a = fault (suc n)
+-- What an answer says of a line: it is fine; or the number of its fault.
+abbrev pub verdict : {A : Type 0} → Result ⊤ Fault → A → OfLine A
+verdict (Ok u) a = fine a
+verdict (Err f) a = fault (fault_number f)
 
 -- A line stands from one place to another, where its newline is.
 pub record Stands (text : List ℕ) (at end : ℕ) : Type 0 where
@@ -39,7 +41,7 @@ pub record Asked
   pub behind : used ≡ length ts
   pub draft : Draft text ags s cs ts
 
--- The number, and what stands on the sheet and in the codes where there is none.
-pub record Judged (text : List ℕ) (ags : List Agent) (ts us : List Term) (m : Net) (r : ℕ) (s : Sheet) (cs : List ℕ) : Type 0 where
+-- The answer, and what stands on the sheet and in the codes where it is fine.
+pub record Judged (text : List ℕ) (ags : List Agent) (ts us : List Term) (m : Net) (r : Result ⊤ Fault) (s : Sheet) (cs : List ℕ) : Type 0 where
   pub told : net_judged ags us m ≡ verdict r m
-  pub draft : r ≡ 0 → Draft text ags s cs (ts ++ us)
+  pub draft : OnOk r (Draft text ags s cs (ts ++ us))

@@ -1,6 +1,8 @@
 -- The two records of terms: what is wrong with a line before its terms are judged, and what it is once they are.
-use Rattle.std.specs.Prelude.{ℕ, suc, ◌≡◌, List, [], ◌∷◌, ◌++◌, length, drop}
+use Rattle.std.specs.Prelude.{ℕ, suc, ◌≡◌, List, [], ◌∷◌, ◌++◌, length, drop, Result, OnOk, MatchResult, ⊤}
 use Rattle.std.proofs.Math.Option.{Option, some}
+use Rattle.parts.specs.Faults.{fault_number}
+use Rattle.parts.specs.declared.faults.Fault.{Fault}
 use Rattle.texts.specs.Bytes.{Word, fault2, fields}
 use Rattle.texts.specs.Terms.{Term}
 use Rattle.texts.specs.Books.{Agent, Net, net_terms}
@@ -22,24 +24,23 @@ pub record Spelt (shape : List Word → Option (List Word)) (line : List ℕ) : 
   pub spelt : terms_of (drop 1 (fields line)) ≡ some terms
   pub goes : (g : List Term → OfLine Net) → passing shape line g ≡ g terms
 
-pub record Shaped (shape : List Word → Option (List Word)) (line : List ℕ) (r : ℕ) : Type 0 where
-  pub bad : ¬ (r ≡ 0) → (g : List Term → OfLine Net) → passing shape line g ≡ fault r
-  pub good : r ≡ 0 → Spelt shape line
+abbrev pub Shaped : (List Word → Option (List Word)) → List ℕ → Result ⊤ Fault → Type 0
+Shaped shape line r = MatchResult r (λ u. Spelt shape line) (λ f. (g : List Term → OfLine Net) → passing shape line g ≡ fault (fault_number f))
 
--- A `face` line: its number, and where that is 0 the net that stands on the sheet and in the codes.
-pub record FaceRead (text : List ℕ) (ags : List Agent) (line : List ℕ) (r : ℕ) (s : Sheet) (cs : List ℕ) : Type 0 where
+-- A `face` line: the answer, and where it is fine the net that stands on the sheet and in the codes.
+pub record FaceRead (text : List ℕ) (ags : List Agent) (line : List ℕ) (r : Result ⊤ Fault) (s : Sheet) (cs : List ℕ) : Type 0 where
   pub net : Net
   pub told : face_line ags (ended_line line) ≡ verdict r net
-  pub draft : r ≡ 0 → Draft text ags s cs (net_terms net)
+  pub draft : OnOk r (Draft text ags s cs (net_terms net))
   pub bare : net.equations ≡ []
-  pub many : r ≡ 0 → suc (length net.face) ≡ length (fields line)
+  pub many : OnOk r (suc (length net.face) ≡ length (fields line))
 
 -- An `eq` line after the net m.
-pub record EqRead (text : List ℕ) (ags : List Agent) (m : Net) (line : List ℕ) (r : ℕ) (s : Sheet) (cs : List ℕ) : Type 0 where
+pub record EqRead (text : List ℕ) (ags : List Agent) (m : Net) (line : List ℕ) (r : Result ⊤ Fault) (s : Sheet) (cs : List ℕ) : Type 0 where
   pub net : Net
   pub told : eq_line ags m (ended_line line) ≡ verdict r net
-  pub draft : r ≡ 0 → Draft text ags s cs (net_terms net)
+  pub draft : OnOk r (Draft text ags s cs (net_terms net))
   pub face : net.face ≡ m.face
   pub terms : List Term
-  pub more : r ≡ 0 → net_lines net ≡ net_lines m ++ (terms ∷ [])
-  pub one : r ≡ 0 → length net.equations ≡ suc (length m.equations)
+  pub more : OnOk r (net_lines net ≡ net_lines m ++ (terms ∷ []))
+  pub one : OnOk r (length net.equations ≡ suc (length m.equations))

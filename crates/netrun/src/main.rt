@@ -6,7 +6,6 @@ use evaluation::sizes::Output;
 use files::read_file;
 use parts::Limits;
 use std::io;
-use terms::words::part;
 
 // One byte more than a text may have is looked for.
 const LOOKED_FOR: usize = Limits::TEXT + 1;
@@ -18,5 +17,5 @@ fn main(rt: HostRuntime) -> io::Result<()> {
     let n = read_file(&rt, b"net.txt", &mut net);
     let mut out = [0u8; Output::SIZE];
     let k = evaluate(&rules[..r], &net[..n], &mut out);
-    rt.write_all(part(&out, 0, k))
+    rt.write_all(&out[..k])
 }

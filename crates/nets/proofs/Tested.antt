@@ -1,10 +1,5 @@
 -- What the call comes to, by what the test of the table says.
-use Prim.Native.Nat.{ℕ, ◌<◌}
-use mathlib.Core.Path.{◌≡◌}
-use mathlib.Core.Bool.{Bool, true, false}
-use mathlib.Core.Logic.{◌↔◌}
-use mathlib.Core.List.{List}
-use lib.ListN.{length}
+use Rattle.std.specs.Prelude.{ℕ, ◌<◌, ◌≡◌, Bool, true, false, ◌↔◌, List, length}
 use Rattle.parts.specs.Limits.{text_max}
 use Rattle.model.specs.State.{St}
 use Rattle.table.specs.Given.{Given}

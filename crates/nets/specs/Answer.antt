@@ -1,5 +1,7 @@
 -- The call that reads a net text: what it answers, and what the lent state is afterwards.
-use Rattle.std.specs.Prelude.{ℕ, Bool, ◌&&◌, List}
+use Rattle.std.specs.Prelude.{ℕ, Bool, ◌&&◌, List, Result, Ok, Err, ⊤}
+use Rattle.parts.specs.Faults.{fault_number}
+use Rattle.parts.specs.declared.faults.Refusal.{Refusal}
 use Rattle.model.specs.State.{St}
 use Rattle.model.specs.Load.{loaded}
 use Rattle.texts.specs.Bytes.{same}
@@ -9,8 +11,6 @@ use Rattle.texts.specs.NetText.{net_read}
 use Rattle.texts.specs.Coded.{load}
 use Rattle.texts.specs.TableTest.{test_table}
 use Rattle.table.specs.Layout.{agents_in, bytes_of, view}
-use Rattle.nets.specs.declared.NetAnswer.{NetAnswer}
-use Rattle.nets.specs.declared.NetAnswer.TheVariants.{Accepted, Refused}
 
 -- The text was accepted, and the state is filled; or it was refused with this number on this line, and the state is as it was.
 pub data Call : Type 0 where
@@ -18,9 +18,9 @@ pub data Call : Type 0 where
   kept : (number line : ℕ) → St → Call
 
 -- What an answer says, beside the state at exit.
-abbrev pub told : NetAnswer → St → Call
-told Accepted s = filled s
-told (Refused number line) s = kept number line s
+abbrev pub told : Result ⊤ Refusal → St → Call
+told (Ok u) s = filled s
+told (Err r) s = kept (fault_number r.fault) r.line s
 
 -- "A sound table is one that some rule text would give if its length had no limit": its bytes are those of a table that passes the test.
 unfoldable pub sound_table : List ℕ → Bool

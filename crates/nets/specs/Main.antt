@@ -1,6 +1,7 @@
 -- The theorems about the call, in one place.
-use Rattle.std.specs.Prelude.{ℕ, ◌≤◌, ◌≡◌, true, false, ◌↔◌, List, length}
+use Rattle.std.specs.Prelude.{ℕ, ◌≤◌, ◌≡◌, true, false, ◌↔◌, List, length, Result, ⊤}
 use Rattle.parts.specs.Limits.{text_max}
+use Rattle.parts.specs.declared.faults.Refusal.{Refusal}
 use Rattle.calculus.specs.Nets.{◌≈◌}
 use Rattle.model.specs.State.{St}
 use Rattle.model.specs.Load.{loaded}
@@ -15,7 +16,6 @@ use Rattle.table.specs.Given.{Given}
 use Rattle.nets.specs.Answer.{filled, kept, told, sound_table, net_call}
 use Rattle.nets.specs.Proofs.Calls as Calls
 use Rattle.nets.specs.Proofs.Theorems as Theorems
-use Rattle.nets.specs.declared.NetAnswer.{NetAnswer}
 
 -- The test in the definition is the document's: some rule text would give the table, if its length had no limit.
 pub sound-exact : (w : List ℕ) → (sound_table w ≡ true) ↔ Given w
@@ -56,5 +56,5 @@ pub good-accepted : (b : Book) → GoodBook b → (n : Net) → GoodNet b.agents
 good-accepted b g n h l s = Theorems.good-accepted b g n h l s
 
 -- No second answer, and no second state, meets the promise.
-pub one_answer : (a b : NetAnswer) (s t : St) → told a s ≡ told b t → (a ≡ b) × (s ≡ t)
+pub one_answer : (a b : Result ⊤ Refusal) (s t : St) → told a s ≡ told b t → (a ≡ b) × (s ≡ t)
 one_answer a b s t e = Theorems.one_answer a b s t e

@@ -1,104 +1,75 @@
 // The first two lines of a net text: its header and its `face`.
-ghost use Rattle.std.specs.Prelude.{◌≡◌, [], suc, ◌≤◌, length, drop};
+ghost use Rattle.std.specs.Prelude.{◌≡◌, [], suc, length};
 ghost use Rattle.parts.specs.Limits.{net_equations_max};
-ghost use Rattle.texts.specs.Books.{word_net};
-ghost use Rattle.texts.specs.RuleText.{header_line};
-ghost use Rattle.texts.specs.Bytes.{ended_line};
 ghost use Rattle.terms.specs.Agents.{agents_of};
 ghost use Rattle.terms.specs.Sheet.{view};
-ghost use Rattle.net_lines.specs.Draft.{Draft};
+ghost use Rattle.net_lines.specs.Draft as Drafts;
 ghost use Rattle.net_lines.specs.Judging.{Fit};
 ghost use Rattle.nets.specs.Heading.{Headed};
 ghost use Rattle.nets.specs.Reading.{FirstRead, SecondRead, Within};
 
-use crate::rest::set_mark;
-use lines::Header;
+use crate::draft::Draft;
+use lines::Counts;
 use lines::fields::header;
-use loading::Codes;
 use net_lines::records::face_line;
 use net_lines::terms_of::terms_in;
+use parts::faults::Fault;
 use scan::bytes::first_bad;
-use scan::cutting::{NextLine, next_line};
-use terms::sheet;
-use terms::sheet::Sheet;
-use terms::words::part;
-use twice::Marks;
+use scan::cutting::next_line;
+use terms::{Source, sheet};
 
-// The header's fault; or its counts, and where the next line begins.
+// The header's counts, and where the next line begins.
 #[derive(Clone, Copy)]
-pub enum First {
-    Wrong {
-        number: u8,
-    },
-    Counted {
-        upper: usize,
-        lower: usize,
-        next: usize,
-    },
+pub struct First {
+    pub counts: Counts,
+    pub next: usize,
 }
 
-// The fault of the `face` line; or how many terms it has, and where the next line begins.
+// How many terms the `face` line has, and where the next line begins.
 #[derive(Clone, Copy)]
-pub enum Second {
-    Bad { number: u8 },
-    Face { terms: usize, next: usize },
+pub struct Second {
+    pub terms: usize,
+    pub next: usize,
 }
 
-// A header's counts, after which the text goes on at `next`; or its number.
-fn header_line(line: &[u8], next: usize) -> First
-    ensures { Headed line.now next result }
+// A header's counts.
+fn header_line(line: &[u8]) -> Result<Counts, Fault>
+    ensures { Headed line.now result }
 {
     if first_bad(line) < line.len() {
-        return First::Wrong { number: 2 };
+        return Err(Fault::BadByte);
     }
-    match header(line, b"net") {
-        Header::Wrong => First::Wrong { number: 3 },
-        Header::Counts { upper, lower } => First::Counted {
-            upper: upper,
-            lower: lower,
-            next: next,
-        },
-    }
+    header(line, b"net").ok_or(Fault::BadRecord)
 }
 
-pub fn first_line(text: &[u8]) -> First
+pub fn first_line(text: &[u8]) -> Result<First, Fault>
     ensures { FirstRead text.now result }
 {
-    match next_line(text, 0) {
-        NextLine::Nothing => First::Wrong { number: 3 },
-        NextLine::Unended => First::Wrong { number: 2 },
-        NextLine::Ended(end) => header_line(part(text, 0, end), end + 1),
-    }
+    let Some(end) = next_line(text, 0)? else {
+        return Err(Fault::BadRecord);
+    };
+    let counts = header_line(&text[..end])?;
+    Ok(First {
+        counts: counts,
+        next: end + 1,
+    })
 }
 
 // The line that begins at `at` is to be the `face`.
-pub fn second_line(
-    text: &[u8],
-    at: usize,
-    agents: &[u8],
-    sheet: &mut [u16; Sheet::SIZE],
-    codes: &mut [u16; Codes::SIZE],
-    marks: &mut [u16; Marks::SIZE],
-) -> Second
-    ensures second_read { Fit text.now (agents_of agents.now)
-        → Draft text.now (agents_of agents.now) (view sheet.old) codes.old []
-        → length marks.old ≡ suc net_equations_max
-        → SecondRead text.now (agents_of agents.now) at result (view sheet.new) codes.new marks.new }
-    ensures within { Within text.now result }
+pub fn second_line(source: Source<'_>, at: usize, draft: &mut Draft) -> Result<Second, Fault>
+    ensures second_read { Fit source.entry.text.now (agents_of source.entry.agents.now)
+        → Drafts.Draft source.entry.text.now (agents_of source.entry.agents.now) (view draft.old.sheet) draft.old.codes []
+        → length draft.old.marks ≡ suc net_equations_max
+        → SecondRead source.entry.text.now (agents_of source.entry.agents.now) at result (view draft.new.sheet) draft.new.codes draft.new.marks }
+    ensures within { Within source.entry.text.now result }
 {
-    match next_line(text, at) {
-        NextLine::Nothing => Second::Bad { number: 3 },
-        NextLine::Unended => Second::Bad { number: 2 },
-        NextLine::Ended(end) => {
-            let r = face_line(text, at, end, agents, sheet, codes);
-            if r != 0 {
-                return Second::Bad { number: r };
-            }
-            set_mark(marks, 0, sheet::names(sheet));
-            Second::Face {
-                terms: terms_in(part(text, at, end - at)),
-                next: end + 1,
-            }
-        }
-    }
+    let Some(end) = next_line(source.text, at)? else {
+        return Err(Fault::BadRecord);
+    };
+    face_line(source, at, end, &mut draft.sheet, &mut draft.codes)?;
+    draft.marks[0] = sheet::names(&draft.sheet);
+    Ok(Second {
+        terms: terms_in(&source.text[at..end]),
+        next: end + 1,
+    })
 }

@@ -8,122 +8,98 @@ ghost use Rattle.texts.specs.NetText.{eq_line, net_counted, net_of_lines};
 ghost use Rattle.table.specs.Layout.{agents_in};
 ghost use Rattle.terms.specs.Agents.{agents_of};
 ghost use Rattle.terms.specs.Sheet.{view};
-ghost use Rattle.loading.specs.OnSheet.{Lent};
+ghost use Rattle.nets.specs.Heading.{plain};
 ghost use Rattle.nets.specs.Reading.{Start, Begun, loose_at, TextRead};
 
-use crate::front::{First, Second, first_line, second_line};
+use crate::draft::Draft;
+use crate::front::{first_line, second_line};
 use crate::rest::read_eqs;
-use loading::Codes;
-use parts::Limits;
-use terms::sheet::Sheet;
-use twice::{Marks, first_loose, lines_before};
+use lines::Counts;
+use loading::LentTable;
+use parts::faults::{Fault, Refusal};
+use terms::Source;
+use twice::{first_loose, lines_before};
 
-// The number and the line of a refusal; or number 0, and how many interface terms and equations there are.
+// How many interface terms and equations a net has.
 #[derive(Clone, Copy)]
-pub struct Outcome {
-    pub number: u8,
-    pub line: usize,
+pub struct Lengths {
     pub faces: usize,
     pub equations: usize,
 }
 
-fn refused(number: u8, line: usize) -> Outcome
-    ensures { (result.number ≡ number) × (result.line ≡ line) }
+// "the line where the earliest offending name first occurs": None where each name occurs exactly twice.
+fn loose_line(table: LentTable<'_>, draft: &Draft, f: usize, k: usize) -> Option<usize>
+    requires { ((view draft.now.sheet).cells ≤ net_cells_max) × (f ≤ face_max) × (k ≤ net_equations_max) }
+    ensures { result ≡ loose_at (agents_in table.entry.bytes.now) (view draft.now.sheet) draft.now.codes draft.now.marks f k }
 {
-    Outcome {
-        number: number,
-        line: line,
-        faces: 0,
-        equations: 0,
+    let x = first_loose(table, &draft.sheet, &draft.codes, f + 2 * k);
+    let j = lines_before(&draft.marks, k + 1, x);
+    if j <= k {
+        return Some(2 + j);
     }
-}
-
-// "the line where the earliest offending name first occurs": 0 where each name occurs exactly twice.
-fn loose_line(
-    table: &[u8; Limits::TABLE],
-    sheet: &[u16; Sheet::SIZE],
-    codes: &[u16; Codes::SIZE],
-    marks: &[u16; Marks::SIZE],
-    f: usize,
-    k: usize,
-) -> usize
-    requires { Lent table.now × ((view sheet.now).cells ≤ net_cells_max) × (f ≤ face_max) × (k ≤ net_equations_max) }
-    ensures { result ≡ loose_at (agents_in table.now) (view sheet.now) codes.now marks.now f k }
-{
-    let x = first_loose(table, sheet, codes, f + 2 * k);
-    let j = lines_before(marks, k + 1, x);
-    if j < k + 1 {
-        return 2 + j;
-    }
-    0
+    None
 }
 
 // From the first `eq` line on, after a header with these counts and a `face` of f terms.
 fn after_face(
-    text: &[u8],
+    source: Source<'_>,
     at: usize,
-    table: &[u8; Limits::TABLE],
-    agents: &[u8],
-    upper: usize,
-    lower: usize,
+    table: LentTable<'_>,
+    counts: Counts,
     f: usize,
-    sheet: &mut [u16; Sheet::SIZE],
-    codes: &mut [u16; Codes::SIZE],
-    marks: &mut [u16; Marks::SIZE],
-) -> Outcome
-    requires { (f ≤ face_max) × (at ≤ length text.now)
-        × ((m : Net) × Begun text.now (agents_of agents.now) table.now f m (view sheet.old) codes.old marks.old) }
-    ensures { (m : Net) → Begun text.now (agents_of agents.now) table.now f m (view sheet.old) codes.old marks.old
-        → TextRead text.now (agents_of agents.now)
-        (after (read_lines (eq_line (agents_of agents.now)) 3 m (lines (drop at text.now))) (net_counted (agents_of agents.now) (record { upper = upper; lower = lower })))
-        result.number result.line result.faces result.equations (view sheet.new) codes.new marks.new }
+    draft: &mut Draft,
+) -> Result<Lengths, Refusal>
+    requires { (f ≤ face_max) × (at ≤ length source.text.now)
+        × ((m : Net) × Begun source.text.now (agents_of source.agents.now) table.bytes.now f m (view draft.old.sheet) draft.old.codes draft.old.marks) }
+    ensures { (m : Net) → Begun source.entry.text.now (agents_of source.entry.agents.now) table.entry.bytes.now f m (view draft.old.sheet) draft.old.codes draft.old.marks
+        → TextRead source.entry.text.now (agents_of source.entry.agents.now)
+        (after (read_lines (eq_line (agents_of source.entry.agents.now)) 3 m (lines (drop at source.entry.text.now))) (net_counted (agents_of source.entry.agents.now) (plain counts)))
+        result (view draft.new.sheet) draft.new.codes draft.new.marks }
 {
-    let stop = read_eqs(text, at, agents, f, sheet, codes, marks);
-    let number = stop.number;
-    let k = stop.equations;
-    if number != 0 {
-        return refused(number, 3 + k);
+    let k = read_eqs(source, at, f, draft)?;
+    if counts.upper != f || counts.lower != k {
+        return Err(Refusal {
+            fault: Fault::CountsDiffer,
+            line: 1,
+        });
     }
-    if upper != f {
-        return refused(11, 1);
+    if let Some(line) = loose_line(table, draft, f, k) {
+        return Err(Refusal {
+            fault: Fault::WrongNames,
+            line: line,
+        });
     }
-    if lower != k {
-        return refused(11, 1);
-    }
-    let l = loose_line(table, sheet, codes, marks, f, k);
-    if l != 0 {
-        return refused(8, l);
-    }
-    Outcome {
-        number: 0,
-        line: 0,
+    Ok(Lengths {
         faces: f,
         equations: k,
-    }
+    })
 }
 
 // All lines of a text.
 pub fn read_lines(
-    text: &[u8],
-    table: &[u8; Limits::TABLE],
-    agents: &[u8],
-    sheet: &mut [u16; Sheet::SIZE],
-    codes: &mut [u16; Codes::SIZE],
-    marks: &mut [u16; Marks::SIZE],
-) -> Outcome
-    requires { Start text.now (agents_of agents.now) table.now (view sheet.old) codes.old marks.old }
-    ensures { TextRead text.now (agents_of agents.now) (net_of_lines (agents_of agents.now) (lines text.now))
-        result.number result.line result.faces result.equations (view sheet.new) codes.new marks.new }
+    source: Source<'_>,
+    table: LentTable<'_>,
+    draft: &mut Draft,
+) -> Result<Lengths, Refusal>
+    requires { Start source.text.now (agents_of source.agents.now) table.bytes.now (view draft.old.sheet) draft.old.codes draft.old.marks }
+    ensures { TextRead source.entry.text.now (agents_of source.entry.agents.now) (net_of_lines (agents_of source.entry.agents.now) (lines source.entry.text.now))
+        result (view draft.new.sheet) draft.new.codes draft.new.marks }
 {
-    match first_line(text) {
-        First::Wrong { number } => refused(number, 1),
-        First::Counted { upper, lower, next } => {
-            match second_line(text, next, agents, sheet, codes, marks) {
-                Second::Bad { number: bad } => refused(bad, 2),
-                Second::Face { terms, next: at } => after_face(
-                    text, at, table, agents, upper, lower, terms, sheet, codes, marks,
-                ),
-            }
-        }
-    }
+    // With `map_err` in place of these two the proof did not close: what its closure gives was out of the tactics' reach.
+    let first = match first_line(source.text) {
+        Ok(first) => first,
+        Err(fault) => return Err(Refusal { fault, line: 1 }),
+    };
+    let second = match second_line(source, first.next, draft) {
+        Ok(second) => second,
+        Err(fault) => return Err(Refusal { fault, line: 2 }),
+    };
+    after_face(
+        source,
+        second.next,
+        table,
+        first.counts,
+        second.terms,
+        draft,
+    )
 }

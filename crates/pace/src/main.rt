@@ -3,9 +3,7 @@
 #![tactic(auto)]
 
 use files::read_file;
-use machine::calls::RunAnswer;
 use parts::Limits;
-use scan::numbers::Number;
 use std::io;
 use std::rt::{Env, Files};
 
@@ -18,17 +16,15 @@ fn argument(rt: &impl Env, i: usize) -> usize {
     let Ok(n) = rt.arg(i, &mut word) else {
         return 0;
     };
-    match scan::numbers::decimal(&word[..n]) {
-        Number::Value(v) => v,
-        Number::Nothing => 0,
-    }
+    scan::numbers::decimal(&word[..n]).unwrap_or(0)
 }
 
+// A text that is refused leaves the empty table, and the empty state.
 fn table(rt: &impl Files) -> [u8; Limits::TABLE] {
     let mut made = table::writing::empty_table();
     let mut text = [0u8; Limits::TEXT];
     let n = read_file(rt, b"rules.txt", &mut text);
-    rules::read_rules(&text[..n], &mut made);
+    let _ = rules::read_rules(&text[..n], &mut made);
     made
 }
 
@@ -36,26 +32,20 @@ fn net(rt: &impl Files, table: &[u8; Limits::TABLE]) -> [u16; Limits::STATE] {
     let mut made = state::empty();
     let mut text = [0u8; Limits::TEXT];
     let n = read_file(rt, b"net.txt", &mut text);
-    nets::read_net(&text[..n], table, &mut made);
+    let _ = nets::read_net(&text[..n], table, &mut made);
     made
 }
 
-// One run of a copy of the state.
+// The interactions of one run of a copy of the state; 0 where it is refused.
 fn once(table: &[u8; Limits::TABLE], first: &[u16; Limits::STATE], budget: u32) -> u32 {
     let mut state = *first;
-    match machine::calls::run(table, &mut state, budget) {
-        RunAnswer::Ended(n) | RunAnswer::Paused(n) | RunAnswer::NoRoom(n) => n,
-        RunAnswer::Unsound | RunAnswer::TooMuch => 0,
-    }
+    machine::calls::run(table, &mut state, budget).map_or(0, |ran| ran.made)
 }
 
 // The budget is given in thousands.
 fn budget(rt: &impl Env) -> u32 {
     let k = argument(rt, 2);
-    if k <= 1000 {
-        return 1000 * (k as u32);
-    }
-    0
+    if k <= 1000 { 1000 * (k as u32) } else { 0 }
 }
 
 fn repeat(

@@ -4,3 +4,4 @@ pub mod SegmentLaws
 pub mod Sides
 pub mod Codes
 pub mod Typed
+pub mod Faults

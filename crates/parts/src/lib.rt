@@ -6,6 +6,8 @@ ghost use Rattle.parts.specs.Limits.{text_max, identifier_max, symbols_max, arit
 ghost use Rattle.parts.specs.Sides.{code, side};
 ghost use Rattle.parts.specs.Typed.{plain, number, typed, equation};
 
+pub mod faults; // faults.rt: why a text or a call is refused
+
 // The sizes of document 01. A size that the code cites is written here and in no other place.
 #[derive(Clone, Copy)]
 pub struct Limits;
@@ -102,40 +104,42 @@ pub fn figures()
 {}
 
 // The number of a name, of a cell and of a symbol: three types, so that none stands in for another.
-#[derive(Clone, Copy)]
+#[derive(Clone, Copy, PartialEq, Eq)]
 pub struct NameNo(pub u16);
 
-#[derive(Clone, Copy)]
+#[derive(Clone, Copy, PartialEq, Eq)]
 pub struct CellNo(pub u16);
 
-#[derive(Clone, Copy)]
+#[derive(Clone, Copy, PartialEq, Eq)]
 pub struct SymbolNo(pub u16);
 
-#[derive(Clone, Copy)]
+#[derive(Clone, Copy, PartialEq, Eq)]
 pub enum Side {
     Name(NameNo),
     Cell(CellNo),
 }
 
-#[derive(Clone, Copy)]
+#[derive(Clone, Copy, PartialEq, Eq)]
 pub struct Equation {
     pub left: Side,
     pub right: Side,
 }
 
 // The side that a code stands for.
-pub fn decode(word: u16) -> Side
-    ensures { result ≡ typed (side word) }
-{
-    let half = word / 2;
-    if word % 2 == 0 {
-        Side::Name(NameNo(half))
-    } else {
-        Side::Cell(CellNo(half))
+impl From<u16> for Side {
+    ghost from_gives = { λ word s. s ≡ typed (side word) };
+
+    fn from(word: u16) -> Side {
+        let half = word / 2;
+        if word % 2 == 0 {
+            Side::Name(NameNo(half))
+        } else {
+            Side::Cell(CellNo(half))
+        }
     }
 }
 
-// The code of a side. A word has 65,536 values, half of them for names and half for cells.
+// The code of a side. A word has 65,536 values, half of them for names and half for cells: it is no `From`, since that takes every side.
 pub fn encode(s: Side) -> u16
     requires { number s < 32768 }
     ensures { result ≡ code (plain s) }
@@ -147,11 +151,13 @@ pub fn encode(s: Side) -> u16
 }
 
 // The equation that two codes stand for.
-pub fn decode_equation(left: u16, right: u16) -> Equation
-    ensures { result ≡ equation left right }
-{
-    Equation {
-        left: decode(left),
-        right: decode(right),
+impl From<(u16, u16)> for Equation {
+    ghost from_gives = { λ codes e. e ≡ equation codes.0 codes.1 };
+
+    fn from(codes: (u16, u16)) -> Equation {
+        Equation {
+            left: Side::from(codes.0),
+            right: Side::from(codes.1),
+        }
     }
 }

@@ -1,9 +1,5 @@
 -- One law for each way out of the printer of a cell, and why each call that it makes is allowed.
-use mathlib.Core.Path.{◌≡◌, refl, sym, ap, ap₂, ◌∙◌, subst}
-use mathlib.Core.List.{List, [], ◌∷◌, map}
-use Prim.Native.Nat.{ℕ, zero, suc, ◌+◌, ◌*◌, ◌-◌, ◌<◌, ◌≤◌, pred}
-use native.Mathlib.Omega.{arith}
-use lib.ListN.{length, get_or, take, drop}
+use Rattle.std.proofs.Common.{◌≡◌, refl, sym, ap, ap₂, ◌∙◌, subst, List, [], ◌∷◌, map, ℕ, zero, suc, ◌+◌, ◌*◌, ◌-◌, ◌<◌, ◌≤◌, pred, arith, length, get_or, take, drop}
 use Rattle.parts.specs.Limits.{identifier_max, arity_max}
 use Rattle.parts.specs.Sides.{Side, cell, side}
 use Rattle.parts.specs.declared.CellNo.{CellNo}
@@ -16,7 +12,7 @@ use Rattle.state.specs.Layout.{view}
 use Rattle.state.specs.declared.Part.TheVariants.{Arguments}
 use Rattle.sound.specs.Lent.{under, Usable}
 use Rattle.sound.proofs.Tables.{under-count}
-use Rattle.lent.specs.Both.{usable, sound_table_lem, sound-state}
+use Rattle.lent.specs.Both.{BothSound, usable, sound_table_lem, sound-state}
 use Rattle.answers.specs.Text.{spelling}
 use Rattle.answers.specs.Printing.{pen, Written, around, close, sides_bytes}
 use Rattle.answers.proofs.PrintingLaws.{cell_none, cell_some}
@@ -25,7 +21,7 @@ use Rattle.printing.specs.Prints.{held, Prints, Stands, Begins, Begun, closing, 
 use Rattle.printing.specs.declared.terms.Cursor.{Cursor}
 use Rattle.printing.proofs.Stores.{puts_then}
 use Rattle.printing.proofs.Pays.{spelling-short, spelling-letters, sides_pay}
-use Rattle.printing.proofs.Ways.{stored, printed, span-short, span-long, narrow, above}
+use Rattle.printing.proofs.Ways.{stored, printed, span-short, span-long, narrow, above, sure}
 
 pred_is : (n : ℕ) → pred n ≡ n - 1
 pred_is zero = refl
@@ -42,13 +38,13 @@ module _ (w v : List ℕ) (k : Cursor) (c : CellNo) where
       (sym (cell_none (agents_in w) (under w) s c.0 (held k ns) e))
       (record { place = omega arith; bytes = refl; after = refl })
 
-  module _ (ns : List ℕ) (R : Ready w v k ns 0) (L : LiveSide s (cell c.0)) where
+  module _ (ns : List ℕ) (sound : ∥ BothSound w v ∥₁) (R : Ready k ns 0) (L : LiveSide s (cell c.0)) where
     pub table-usable : Usable w
-    table-usable = usable R.lent
+    table-usable = usable (sure sound)
 
     module _ (word : ℕ) (read : word ≡ get_or s.symbols c.0 0) where
       declared : word ≤ length (agents_in w)
-      declared = omega (arith, read, (sound-state R.lent).declared c.0, under-count w)
+      declared = omega (arith, read, (sound-state (sure sound)).declared c.0, under-count w)
 
       spelt : spelling (agents_in w) (mem_of (under w) s c.0).symbol ≡ letters w (word - 1)
       spelt =
@@ -74,7 +70,7 @@ module _ (w v : List ℕ) (k : Cursor) (c : CellNo) where
               record {
                 fits = omega (arith, L.0, wide.1);
                 live = λ j b.
-                    argument_live (sound_table_lem R.lent) s (sound-state R.lent) c.0 j L.1 (subst (λ m. j < m) width_is b);
+                    argument_live (sound_table_lem (sure sound)) s (sound-state (sure sound)) c.0 j L.1 (subst (λ m. j < m) width_is b);
               }
 
           abbrev args : List Side
@@ -97,10 +93,9 @@ module _ (w v : List ℕ) (k : Cursor) (c : CellNo) where
                   spelling-short w (mem_of (under w) s c.0).symbol,
                 )
 
-            pub args-ready : Ready w v inner ns ((1 + name_long) * n)
+            pub args-ready : Ready inner ns ((1 + name_long) * n)
             args-ready =
                 record {
-                  lent = R.lent;
                   fits = record { long = R.fits.long; few = subst (λ m. m ≤ used ns) (sym b.next) R.fits.few };
                   room =
                       omega (
@@ -126,7 +121,7 @@ module _ (w v : List ℕ) (k : Cursor) (c : CellNo) where
                     wide.1,
                     h.place,
                     span-short s.arguments (arity_max * c.0) n,
-                    sides_pay (agents_in w) (under w) s (spelling-short w) (narrow w v R.lent) 40 44 args (held inner ns),
+                    sides_pay (agents_in w) (under w) s (spelling-short w) (narrow w v (sure sound)) 40 44 args (held inner ns),
                   )
 
               pub cell_way : (o₃ : List ℕ) (r : Cursor) → Stands (closing n) r₁ o₂ r o₃
@@ -161,4 +156,4 @@ module _ (w v : List ℕ) (k : Cursor) (c : CellNo) where
                   go (suc n) (t ∷ ts) e = refl
 
                   ends : close (mem_of (under w) s c.0).args ≡ closing n
-                  ends = go n (mem_of (under w) s c.0).args (ap length args_are ∙ span-long s.arguments (arity_max * c.0) n (omega (arith, (sound-state R.lent).sizes.arguments, L.0, wide.1)))
+                  ends = go n (mem_of (under w) s c.0).args (ap length args_are ∙ span-long s.arguments (arity_max * c.0) n (omega (arith, (sound-state (sure sound)).sizes.arguments, L.0, wide.1)))

@@ -1,10 +1,5 @@
 -- One law for each way out of the functions that look at a side and number a name.
-use mathlib.Core.Path.{◌≡◌, refl, sym, ap, ◌∙◌, subst}
-use mathlib.Core.List.{List, [], ◌∷◌}
-use Prim.Native.Nat.{ℕ, zero, suc, ◌+◌, ◌-◌, ◌<◌, ◌≤◌}
-use native.Mathlib.Numerals.{add-one}
-use native.Mathlib.Omega.{arith}
-use lib.ListN.{get_or, set}
+use Rattle.std.proofs.Common.{◌≡◌, refl, sym, ap, ◌∙◌, subst, List, [], ◌∷◌, ℕ, zero, suc, ◌+◌, ◌-◌, ◌<◌, ◌≤◌, add-one, arith, get_or, set}
 use Rattle.parts.specs.Sides.{name, cell, side}
 use Rattle.parts.specs.Sides as Plain
 use Rattle.parts.specs.Typed.{typed, plain, plain-typed}
@@ -15,7 +10,7 @@ use Rattle.parts.specs.declared.CellNo.{CellNo}
 use Rattle.model.specs.State.{St, bond, to}
 use Rattle.model.specs.Ranges.{LiveSide}
 use Rattle.answers.specs.Text.{numeral}
-use Rattle.answers.specs.Printing.{numbered, numbered_both}
+use Rattle.answers.specs.Printing.{pen, numbered, numbered_both}
 use Rattle.answers.proofs.PrintingLaws.{side-cell, side-known, side-bare, side-joined, side_tied}
 use Rattle.answers.proofs.Beneath.Live.{bonds-live}
 use Rattle.printing.specs.Puts.{Puts}
@@ -102,13 +97,16 @@ one_way k r ns o o' x p t e =
     let z : k.next + 1 ≡ suc k.next = add-one k.next in
     rw (e, z) record { place = t.place; bytes = t.bytes; after = refl }
 
-pub two_way : (k r : Cursor) (ns o o' : List ℕ) (x y p : ℕ) → Puts (numeral k.next) k.at o p o'
-    → r ≡ record { at = p; next = k.next + 1; left = k.left }
-    → Prints (two_names x y k ns) k.at o r (set (set ns x (k.next + 1)) y (k.next + 1)) o'
-unfolding two_names numbered_both
-two_way k r ns o o' x y p t e =
-    let z : k.next + 1 ≡ suc k.next = add-one k.next in
-    rw (e, z) record { place = t.place; bytes = t.bytes; after = refl }
+-- A second name takes the number that a first was given.
+pub two_way : (k r : Cursor) (ns ns' o o' : List ℕ) (x y : ℕ) → Prints (one_name x k ns) k.at o r ns' o'
+    → Prints (two_names x y k ns) k.at o r (set ns' y r.next) o'
+unfolding one_name numbered two_names numbered_both
+two_way k r ns ns' o o' x y t =
+    record {
+      place = t.place;
+      bytes = t.bytes;
+      after = ap (λ P. pen P.next (set P.numbers y P.next) P.left) t.after;
+    }
 
 -- The bracket of a cell.
 pub closing_none : (k : Cursor) (o : List ℕ) (n : ℕ) → n ≡ 0 → Stands (closing n) k o k o

@@ -1,11 +1,5 @@
 -- How long what the printer writes can be: each cell that is met pays for its letters, its bracket and the names in it.
-use mathlib.Core.Path.{◌≡◌, refl, ap}
-use mathlib.Core.Bool.{Bool, true, false, cond}
-use mathlib.Core.List.{List, [], ◌∷◌, ◌++◌}
-use Prim.Native.Nat.{ℕ, zero, suc, ◌+◌, ◌*◌, ◌/◌, ◌%◌, ◌<◌, ◌≤◌}
-use native.Mathlib.Omega.{arith}
-use lib.Dec.{ltb}
-use lib.ListN.{length, get_or, take, length-append, length-take}
+use Rattle.std.proofs.Common.{◌≡◌, refl, ap, Bool, true, false, cond, List, [], ◌∷◌, ◌++◌, ℕ, zero, suc, ◌+◌, ◌*◌, ◌/◌, ◌%◌, ◌<◌, ◌≤◌, arith, ltb, length, get_or, take, length-append, length-take}
 use Rattle.parts.specs.Limits.{identifier_max, arity_max}
 use Rattle.parts.specs.Sides.{Side, name, cell}
 use Rattle.model.specs.State.{St, Bond, free, bare, to, bond}

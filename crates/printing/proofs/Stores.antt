@@ -1,12 +1,6 @@
 -- One law for each way out of the functions that store bytes.
-use mathlib.Core.Path.{◌≡◌, refl, sym, ap, ◌∙◌, subst}
-use mathlib.Core.List.{List, [], ◌∷◌, ◌++◌}
-use Prim.Native.Nat.{ℕ, zero, suc, ◌+◌, ◌/◌, ◌%◌, ◌<◌, ◌≤◌}
-use native.Mathlib.Numerals.{add-one}
-use native.Mathlib.Omega.{arith}
-use lib.ListN.{length, get_or, set, take, drop, length-append, length-take, drop_of_length-le}
-use lib.Seq.{sets, length-sets, set_out, get_or-take}
-use borrow.Author.Tests.{lt-ltb, le-ltb}
+use Rattle.std.proofs.Common.{◌≡◌, refl, sym, ap, ◌∙◌, subst, List, [], ◌∷◌, ◌++◌, ℕ, zero, suc, ◌+◌, ◌/◌, ◌%◌, ◌<◌, ◌≤◌, add-one, arith, length, get_or, set, take, drop, length-append, length-take, drop_of_length-le, get_or-take, take-suc, take_all, lt-ltb, le-ltb}
+use lib.Seq.{sets, length-sets, set_out}
 use Rattle.parts.specs.Limits.{identifier_max}
 use Rattle.texts.specs.Bytes.{decimal}
 use Rattle.table.specs.Layout.{agent_row, word}
@@ -33,9 +27,40 @@ puts_then {a} {b} {o} {o₁} {o₂} {at} {p} {r} s t =
       bytes = t.bytes ∙ (ap (λ l. sets l p b) s.bytes ∙ (ap (λ n. sets (sets o at a) n b) s.place ∙ sym (sets_append a b o at)));
     }
 
+pub puts-long : {a o o₁ : List ℕ} {at p : ℕ} → Puts a at o p o₁ → length o₁ ≡ length o
+puts-long {a} {o} {o₁} {at} {p} s = ap length s.bytes ∙ length-sets o at a
+
+pub puts_none : (o : List ℕ) (at : ℕ) → Puts [] at o at o
+puts_none o at = record { place = omega arith; bytes = refl }
+
 pub two_puts : (x y : ℕ) (o o₁ o₂ : List ℕ) (at p r : ℕ) → Puts (x ∷ []) at o p o₁ → Puts (y ∷ []) p o₁ r o₂
     → Puts (x ∷ y ∷ []) at o r o₂
 two_puts x y o o₁ o₂ at p r s t = puts_then s t
+
+-- After i bytes of a word.
+pub record Storing (word : List ℕ) (at : ℕ) (o₀ : List ℕ) (i p : ℕ) (o : List ℕ) : Type 0 where
+  pub within : i ≤ length word
+  pub place : p ≡ at + i
+  pub long : length o ≡ length o₀
+  pub puts : Puts (take i word) at o₀ p o
+
+module _ (word : List ℕ) (at : ℕ) (o₀ : List ℕ) where
+  pub storing_none : Storing word at o₀ 0 at o₀
+  storing_none = record { within = omega arith; place = omega arith; long = refl; puts = puts_none o₀ at }
+
+  module _ (i p : ℕ) (o : List ℕ) (s : Storing word at o₀ i p o) where
+    pub storing_more : (q : ℕ) (o₁ : List ℕ) → i < length word → Puts (get_or word i 0 ∷ []) p o q o₁
+        → Storing word at o₀ (i + 1) q o₁
+    storing_more q o₁ h t =
+        record {
+          within = omega arith;
+          place = omega (arith, s.place, t.place);
+          long = puts-long t ∙ s.long;
+          puts = rw (add-one i, take-suc word i 0 h) (puts_then s.puts t);
+        }
+
+    pub storing_end : length word ≤ i → Puts word at o₀ p o
+    storing_end h = subst (λ l. Puts l at o₀ p o) (take_all i word h) s.puts
 
 -- The letters of a row, as far as the first 0.
 word_end : (l : List ℕ) (j : ℕ) → get_or l j 0 ≡ 0 → word (drop j l) ≡ []

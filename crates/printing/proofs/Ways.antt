@@ -1,11 +1,7 @@
 -- One law for each way out of the printer of sides and cells, and why each call that it makes is allowed.
-use mathlib.Core.Path.{◌≡◌, refl, sym, ap, ap₂, ◌∙◌, subst}
-use mathlib.Core.List.{List, [], ◌∷◌, map}
-use Prim.Native.Nat.{ℕ, zero, suc, ◌+◌, ◌*◌, ◌-◌, ◌<◌, ◌≤◌}
-use native.Mathlib.Numerals.{add-one}
-use native.Mathlib.Omega.{arith}
-use lib.ListN.{length, get_or, take, drop, length-map, length-take, length-drop}
-use lib.Seq.{drop-cons, length-take-le}
+use Rattle.std.proofs.Common.{◌≡◌, refl, sym, ap, ap₂, ◌∙◌, subst, List, [], ◌∷◌, map, ℕ, zero, suc, ◌+◌, ◌*◌, ◌-◌, ◌<◌, ◌≤◌, add-one, arith, length, get_or, take, drop, length-take, length-drop, drop-cons, length-take-le}
+use Rattle.std.proofs.Math.Logic.{∥∥₁_elim}
+use lib.ListN.{length-map}
 use mir.Syntax.{w64}
 use mir.Val.{Fits as FitsIn}
 use Rattle.parts.specs.Limits.{arity_max, cells_max}
@@ -23,6 +19,7 @@ use Rattle.state.specs.declared.Part.{Part}
 use Rattle.state.specs.declared.Part.TheVariants.{Symbols, Arguments, Names, Waiting, Stuck, Face}
 use Rattle.sound.specs.Lent.{under}
 use Rattle.lent.specs.Both.{BothSound, sound_table_lem, sound-state}
+use Rattle.lent.specs.Decided.{decided}
 use Rattle.answers.specs.Text.{numeral}
 use Rattle.answers.specs.Printing.{Pen, Fits, Written, written, side_bytes, sides_bytes}
 use Rattle.answers.proofs.PrintingLaws.{side-falls, sides_none, sides_more, next-below, side-kept}
@@ -86,6 +83,17 @@ unfolding span
 span-long l from n h =
     length-map (take n (drop from l)) side ∙ length-take-le n (drop from l) (omega (arith, length-drop from l))
 
+pub ready_less : (k : Cursor) (ns : List ℕ) (n : ℕ) → Ready k ns n → Ready k ns 0
+ready_less k ns n R = record { fits = R.fits; room = omega (arith, R.room) }
+
+-- That a table and a state are sound is decided, so the bare fact gives its witness.
+pub sure : {w v : List ℕ} → ∥ BothSound w v ∥₁ → BothSound w v
+sure {w} {v} h = go (decided w v)
+  where
+    go : Dec (BothSound w v) → BothSound w v
+    go (yes b) = b
+    go (no n) = absurd (∥∥₁_elim h (λ x y. absurd x) n)
+
 module _ (w v : List ℕ) where
   abbrev s : St
   s = view v
@@ -101,13 +109,10 @@ module _ (w v : List ℕ) where
         length-take n l,
       )
 
-  pub ready_less : (k : Cursor) (ns : List ℕ) (n : ℕ) → Ready w v k ns n → Ready w v k ns 0
-  ready_less k ns n R = record { lent = R.lent; fits = R.fits; room = omega (arith, R.room) }
-
   -- A side, by what it is met as.
-  module _ (k : Cursor) (ns : List ℕ) (R : Ready w v k ns name_long) (word : ℕ) (m : Met) (L : Looks s ns (side word) m) where
+  module _ (sound : ∥ BothSound w v ∥₁) (k : Cursor) (ns : List ℕ) (R : Ready k ns name_long) (word : ℕ) (m : Met) (L : Looks s ns (side word) m) where
     live : LiveMet s m
-    live = L.live (under w) (sound_table_lem R.lent) (sound-state R.lent)
+    live = L.live (under w) (sound_table_lem (sure sound)) (sound-state (sure sound))
 
     leaf : (x : ℕ) → LiveSide s (name x) → Leaf k x
     leaf x o = record { few = next-below (held k ns) R.fits; room = omega (arith, R.room); inside = o.0 }
@@ -162,10 +167,10 @@ module _ (w v : List ℕ) where
       (record { place = omega arith; bytes = refl; after = refl })
 
   -- One and the rest.
-  module _ (k : Cursor) (ns : List ℕ) (p : Part) (from n : ℕ) (R : Ready w v k ns ((1 + name_long) * n)) (Q : Row s p from n)
-      (some : ¬ (n ≡ 0)) where
+  module _ (sound : ∥ BothSound w v ∥₁) (k : Cursor) (ns : List ℕ) (p : Part) (from n : ℕ) (R : Ready k ns ((1 + name_long) * n))
+      (Q : Row s p from n) (some : ¬ (n ≡ 0)) where
     inside : from < length (words p s)
-    inside = omega (arith, part-long s p (sound-state R.lent).sizes, Q.fits)
+    inside = omega (arith, part-long s p (sound-state (sure sound)).sizes, Q.fits)
 
     pub rest-row : Row s p (from + 1) (n - 1)
     rest-row =
@@ -189,10 +194,9 @@ module _ (w v : List ℕ) where
         before : begun.left ≡ k.left
         before = ap (λ P. P.left) (t.same ns)
 
-        pub first_ready : Ready w v begun ns name_long
+        pub first_ready : Ready begun ns name_long
         first_ready =
             record {
-              lent = R.lent;
               fits = subst Fits (sym (t.same ns)) R.fits;
               room = omega (arith, R.room, above n some, t.puts.place, before);
             }
@@ -201,15 +205,14 @@ module _ (w v : List ℕ) where
         first_falls t e = omega (arith, before)
 
         module _ (o₂ ns₁ : List ℕ) (r₁ : Cursor) (h : Prints (side_of w v word begun ns) begun.at o₁ r₁ ns₁ o₂) where
-          pub rest-ready : Ready w v r₁ ns₁ ((1 + name_long) * (n - 1))
+          pub rest-ready : Ready r₁ ns₁ ((1 + name_long) * (n - 1))
           rest-ready =
               record {
-                lent = R.lent;
                 fits =
                     subst
                     Fits
                     (sym h.after)
-                    (side-kept (agents_in w) (sound_table_lem R.lent) (sound-state R.lent) (side word) first_live (held begun ns) first_ready.fits);
+                    (side-kept (agents_in w) (sound_table_lem (sure sound)) (sound-state (sure sound)) (side word) first_live (held begun ns) first_ready.fits);
                 room =
                     omega (
                       arith,
@@ -219,7 +222,7 @@ module _ (w v : List ℕ) where
                       before,
                       h.place,
                       ap (λ P. P.left) h.after,
-                      side_pays (agents_in w) (under w) s (spelling-short w) (narrow R.lent) (side word) (held begun ns),
+                      side_pays (agents_in w) (under w) s (spelling-short w) (narrow (sure sound)) (side word) (held begun ns),
                     );
               }
 

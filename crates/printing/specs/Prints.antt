@@ -14,7 +14,6 @@ use Rattle.state.specs.Layout.{view}
 use Rattle.state.specs.Places.{size, words}
 use Rattle.state.specs.declared.Part.{Part}
 use Rattle.sound.specs.Lent.{under}
-use Rattle.lent.specs.Both.{BothSound}
 use Rattle.answers.specs.Text.{numeral}
 use Rattle.answers.specs.Printing.{Pen, pen, Fits, Written, written, numbered, numbered_both, side_bytes, sides_bytes, cell_bytes}
 use Rattle.printing.specs.Puts.{Puts, far, name_long, letters}
@@ -58,9 +57,8 @@ closing (suc n) = 41 ∷ []
 abbrev pub dear : ℕ
 dear = identifier_max + 1 + arity_max * (1 + name_long)
 
--- What is lent is sound, the numbers fit, and the cells left and n more bytes come to no place that is too far.
-pub record Ready (w v : List ℕ) (k : Cursor) (ns : List ℕ) (n : ℕ) : Type 0 where
-  pub lent : BothSound w v
+-- The numbers fit, and the cells left and n more bytes come to no place that is too far.
+pub record Ready (k : Cursor) (ns : List ℕ) (n : ℕ) : Type 0 where
   pub fits : Fits (held k ns)
   pub room : k.at + dear * k.left + n ≤ far
 

@@ -1,5 +1,5 @@
-// What the printer stores at a place of the output: a byte, the letters of a symbol, and the number of a name.
-ghost use Rattle.std.specs.Prelude.{[], ◌∷◌, ◌+◌, ◌<◌, ◌≤◌};
+// What the printer stores at a place of the output: a byte, a word, the letters of a symbol, and the number of a name.
+ghost use Rattle.std.specs.Prelude.{[], ◌∷◌, ◌+◌, ◌<◌, ◌≤◌, length};
 ghost use Rattle.parts.specs.Limits.{identifier_max, symbols_max};
 ghost use Rattle.answers.specs.Text.{numeral};
 ghost use Rattle.printing.specs.Puts.{Puts, far, name_long, letters};
@@ -14,9 +14,20 @@ pub fn put(out: &mut [u8], at: usize, b: u8) -> usize
 {
     if at < out.len() {
         out[at] = b;
-        return at + 1;
     }
     at + 1
+}
+
+// The bytes of a word, or of any other text.
+pub fn put_bytes(out: &mut [u8], at: usize, word: &[u8]) -> usize
+    requires { at + length word.now ≤ far }
+    ensures { Puts word.now at out.old result out.new }
+{
+    let mut p = at;
+    for b in word {
+        p = put(out, p, *b);
+    }
+    p
 }
 
 // The letters of a symbol, which end at the first 0 of its row.
@@ -25,14 +36,12 @@ pub fn put_letters(table: &[u8; Limits::TABLE], s: usize, out: &mut [u8], at: us
     ensures { Puts (letters table.now s) at out.old result out.new }
 {
     let mut p = at;
-    let mut j: usize = 0;
-    while j < Limits::IDENTIFIER {
+    for j in 0..Limits::IDENTIFIER {
         let b = agent_byte(table, s, j);
         if b == 0 {
             return p;
         }
         p = put(out, p, b);
-        j += 1;
     }
     p
 }
@@ -46,6 +55,7 @@ fn put_two(out: &mut [u8], at: usize, x: u16, y: u16) -> usize
     put(out, a, 48 + (y as u8))
 }
 
+// By hand and not by `Display`, as the numbers of the first line: a place without room is counted and not stored.
 // "Names left are printed `_0`, `_1`".
 pub fn put_numeral(out: &mut [u8], at: usize, k: u16) -> usize
     requires { at + name_long ≤ far }

@@ -9,8 +9,10 @@ ghost use Rattle.printing.specs.Puts.{far, name_long};
 ghost use Rattle.printing.specs.Prints.{Stands, Begins, Begun, closing, Prints, Looks, Ready, Row, Leaf, span, one_name, two_names, side_of, cell_of, sides_of};
 
 use crate::leaves::{put, put_letters, put_numeral};
-use parts::{CellNo, Limits, NameNo, Side, decode};
+use crate::states::SoundState;
+use parts::{CellNo, Limits, NameNo, Side};
 use sound::passes::width_of;
+use sound::usable::UsableTable;
 use state::{Part, name_word, read, symbol_word};
 
 // Where the next byte goes, the next number of a name, and the cells not yet met.
@@ -21,6 +23,8 @@ pub struct Cursor {
     pub left: u16,
 }
 
+// The numbers and the output are lent for writing and the cursor goes by value, so the three stay apart: a struct of them would be a `&mut` to
+// two more, and each clause would have to say which of them stays.
 // What a side is met as: a name that has a number, one that is bare, two that are joined, or a cell.
 #[derive(Clone, Copy)]
 pub enum Met {
@@ -34,8 +38,7 @@ fn look_at(state: &[u16; Limits::STATE], numbers: &[u16; Limits::NAMES], x: Name
     requires { LiveSide (view state.now) (name x.0) }
     ensures { Looks (view state.now) numbers.now (name x.0) result }
 {
-    let i = x.0 as usize;
-    let k = numbers[i];
+    let k = numbers[usize::from(x.0)];
     if k != 0 {
         return Met::Numbered(k - 1);
     }
@@ -43,14 +46,9 @@ fn look_at(state: &[u16; Limits::STATE], numbers: &[u16; Limits::NAMES], x: Name
     if word < 2 {
         return Met::Bare(x);
     }
-    let t = decode(word - 2);
-    match t {
-        Side::Name(y) => {
-            return Met::Joined { x: x, y: y };
-        }
-        Side::Cell(c) => {
-            return Met::Cell(c);
-        }
+    match Side::from(word - 2) {
+        Side::Name(y) => Met::Joined { x: x, y: y },
+        Side::Cell(c) => Met::Cell(c),
     }
 }
 
@@ -58,14 +56,9 @@ fn look(state: &[u16; Limits::STATE], numbers: &[u16; Limits::NAMES], word: u16)
     requires { LiveSide (view state.now) (side word) }
     ensures { Looks (view state.now) numbers.now (side word) result }
 {
-    let s = decode(word);
-    match s {
-        Side::Name(x) => {
-            return look_at(state, numbers, x);
-        }
-        Side::Cell(c) => {
-            return Met::Cell(c);
-        }
+    match Side::from(word) {
+        Side::Name(x) => look_at(state, numbers, x),
+        Side::Cell(c) => Met::Cell(c),
     }
 }
 
@@ -74,11 +67,9 @@ pub fn mark(out: &mut [u8], k: Cursor, b: u8) -> Cursor
     requires { k.at + 1 ≤ far }
     ensures { Stands (b ∷ []) k out.old result out.new }
 {
-    let p = put(out, k.at, b);
     Cursor {
-        at: p,
-        next: k.next,
-        left: k.left,
+        at: put(out, k.at, b),
+        ..k
     }
 }
 
@@ -87,11 +78,9 @@ fn name_again(out: &mut [u8], k: Cursor, n: u16) -> Cursor
     requires { k.at + name_long ≤ far }
     ensures { Stands (numeral n) k out.old result out.new }
 {
-    let p = put_numeral(out, k.at, n);
     Cursor {
-        at: p,
-        next: k.next,
-        left: k.left,
+        at: put_numeral(out, k.at, n),
+        ..k
     }
 }
 
@@ -100,18 +89,16 @@ fn name_one(numbers: &mut [u16; Limits::NAMES], out: &mut [u8], k: Cursor, x: Na
     requires { Leaf k x.0 }
     ensures { Prints (one_name x.0 k numbers.old) k.at out.old result numbers.new out.new }
 {
-    let p = put_numeral(out, k.at, k.next);
-    let i = x.0 as usize;
     let n = k.next + 1;
-    numbers[i] = n;
+    numbers[usize::from(x.0)] = n;
     Cursor {
-        at: p,
+        at: put_numeral(out, k.at, k.next),
         next: n,
-        left: k.left,
+        ..k
     }
 }
 
-// Two joined names take it both.
+// Two joined names take it both: the second the number that the first was given.
 fn name_two(
     numbers: &mut [u16; Limits::NAMES],
     out: &mut [u8],
@@ -122,17 +109,9 @@ fn name_two(
     requires { Leaf k x.0 × Leaf k y.0 }
     ensures { Prints (two_names x.0 y.0 k numbers.old) k.at out.old result numbers.new out.new }
 {
-    let p = put_numeral(out, k.at, k.next);
-    let i = x.0 as usize;
-    let j = y.0 as usize;
-    let n = k.next + 1;
-    numbers[i] = n;
-    numbers[j] = n;
-    Cursor {
-        at: p,
-        next: n,
-        left: k.left,
-    }
+    let done = name_one(numbers, out, k, x);
+    numbers[usize::from(y.0)] = done.next;
+    done
 }
 
 // The letters of a cell, by the word of its symbol: the cells left are one less.
@@ -140,11 +119,10 @@ fn begin_cell(table: &[u8; Limits::TABLE], out: &mut [u8], k: Cursor, word: u16)
     requires { Begins k word }
     ensures { Begun table.now word k out.old result out.new }
 {
-    let p = put_letters(table, (word - 1) as usize, out, k.at);
     Cursor {
-        at: p,
-        next: k.next,
+        at: put_letters(table, usize::from(word - 1), out, k.at),
         left: k.left - 1,
+        ..k
     }
 }
 
@@ -153,67 +131,52 @@ fn end_cell(out: &mut [u8], k: Cursor, n: usize) -> Cursor
     requires { k.at + 1 ≤ far }
     ensures { Stands (closing n) k out.old result out.new }
 {
-    if n == 0 {
-        return k;
-    }
-    mark(out, k, b')')
+    if n == 0 { k } else { mark(out, k, b')') }
 }
 
 // A side: a name by its number, a tied name and a cell as the term that it is.
 #[cycle(print_cell_print_side_print_sides)]
 pub fn print_side(
-    table: &[u8; Limits::TABLE],
-    state: &[u16; Limits::STATE],
+    lent: SoundState,
     numbers: &mut [u16; Limits::NAMES],
     out: &mut [u8],
     k: Cursor,
     word: u16,
 ) -> Cursor
-    requires { Ready table.now state.now k numbers.old name_long × LiveSide (view state.now) (side word) }
-    ensures { Prints (side_of table.now state.now word k numbers.old)
+    requires { Ready k numbers.old name_long × LiveSide (view lent.state.now) (side word) }
+    ensures { Prints (side_of lent.entry.table.now lent.entry.state.now word k numbers.old)
         k.at out.old result numbers.new out.new }
 {
-    let m = look(state, numbers, word);
-    match m {
-        Met::Numbered(n) => {
-            return name_again(out, k, n);
-        }
-        Met::Bare(x) => {
-            return name_one(numbers, out, k, x);
-        }
-        Met::Joined { x, y } => {
-            return name_two(numbers, out, k, x, y);
-        }
-        Met::Cell(c) => {
-            return print_cell(table, state, numbers, out, k, c);
-        }
+    match look(lent.state, numbers, word) {
+        Met::Numbered(n) => name_again(out, k, n),
+        Met::Bare(x) => name_one(numbers, out, k, x),
+        Met::Joined { x, y } => name_two(numbers, out, k, x, y),
+        Met::Cell(c) => print_cell(lent, numbers, out, k, c),
     }
 }
 
 // A cell, if one is left to be met: its symbol, and its arguments in brackets, parted by commas.
 #[cycle(print_cell_print_side_print_sides)]
 fn print_cell(
-    table: &[u8; Limits::TABLE],
-    state: &[u16; Limits::STATE],
+    lent: SoundState,
     numbers: &mut [u16; Limits::NAMES],
     out: &mut [u8],
     k: Cursor,
     c: CellNo,
 ) -> Cursor
-    requires { Ready table.now state.now k numbers.old 0 × LiveSide (view state.now) (cell c.0) }
-    ensures { Prints (cell_of table.now state.now c.0 k numbers.old)
+    requires { Ready k numbers.old 0 × LiveSide (view lent.state.now) (cell c.0) }
+    ensures { Prints (cell_of lent.entry.table.now lent.entry.state.now c.0 k numbers.old)
         k.at out.old result numbers.new out.new }
 {
     if k.left == 0 {
         return k;
     }
-    let word = symbol_word(state, c);
-    let n = width_of(table, word) as usize;
-    let inner = begin_cell(table, out, k, word);
-    let from = Limits::ARITY * (c.0 as usize);
+    let word = symbol_word(lent.state, c);
+    let n = usize::from(width_of(UsableTable { bytes: lent.table }, word));
+    let inner = begin_cell(lent.table, out, k, word);
+    let from = Limits::ARITY * usize::from(c.0);
     let r = print_sides(
-        table,
-        state,
+        lent,
         numbers,
         out,
         inner,
@@ -229,8 +192,7 @@ fn print_cell(
 // n sides of a part, with the byte f before the first and the byte g before each other.
 #[cycle(print_cell_print_side_print_sides)]
 pub fn print_sides(
-    table: &[u8; Limits::TABLE],
-    state: &[u16; Limits::STATE],
+    lent: SoundState,
     numbers: &mut [u16; Limits::NAMES],
     out: &mut [u8],
     k: Cursor,
@@ -240,15 +202,16 @@ pub fn print_sides(
     f: u8,
     g: u8,
 ) -> Cursor
-    requires { Ready table.now state.now k numbers.old ((1 + name_long) * n) × Row (view state.now) p from n }
-    ensures { Prints (sides_of table.now state.now f g (span (words p (view state.now)) from n) k numbers.old)
+    requires { Ready k numbers.old ((1 + name_long) * n) × Row (view lent.state.now) p from n }
+    ensures { Prints (sides_of lent.entry.table.now lent.entry.state.now f g
+        (span (words p (view lent.entry.state.now)) from n) k numbers.old)
         k.at out.old result numbers.new out.new }
 {
     if n == 0 {
         return k;
     }
-    let word = read(state, p, from);
+    let word = read(lent.state, p, from);
     let begun = mark(out, k, f);
-    let done = print_side(table, state, numbers, out, begun, word);
-    print_sides(table, state, numbers, out, done, p, from + 1, n - 1, g, g)
+    let done = print_side(lent, numbers, out, begun, word);
+    print_sides(lent, numbers, out, done, p, from + 1, n - 1, g, g)
 }

@@ -1,11 +1,7 @@
 -- A run of bytes stored in a table: what it does to blocks, and when the bytes are those of the table with one agent or one rule more.
-use Prim.Native.Nat.{ℕ, suc, ◌+◌, ◌*◌, ◌/◌, ◌%◌, ◌<◌, ◌≤◌}
-use mathlib.Core.Path.{◌≡◌, refl, sym, ap, ap₂, ◌∙◌}
-use mathlib.Core.List.{List, [], ◌∷◌, ◌++◌}
-use native.Mathlib.Omega.{arith}
-use native.Mathlib.Nat.{mul-suc}
-use lib.ListN.{length, set, drop, length-append, drop_of_length-le}
-use lib.Seq.{sets, sets-eq, set-append_left, length-sets}
+use Rattle.std.specs.Prelude.{ℕ, suc, ◌+◌, ◌*◌, ◌/◌, ◌%◌, ◌<◌, ◌≤◌, ◌≡◌, refl, List, [], ◌∷◌, ◌++◌, length, set, drop}
+use Rattle.std.proofs.Common.{sym, ap, ap₂, ◌∙◌, arith, mul-suc, length-append, drop_of_length-le}
+use Rattle.std.proofs.Math.Seq.{sets, sets-eq, set-append_left, length-sets}
 use Rattle.parts.specs.Limits.{symbols_max, rules_max, agent_size, rule_size}
 use Rattle.model.specs.Table.{Entry, none, find}
 use Rattle.model.specs.Decisions.{both}

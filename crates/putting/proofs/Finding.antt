@@ -1,9 +1,6 @@
 -- The look-up of a pair in the rules with one more.
-use Prim.Native.Nat.{ℕ, suc, ◌+◌}
-use mathlib.Core.Path.{◌≡◌, refl, ◌∙◌}
-use mathlib.Core.List.{List, [], ◌∷◌, ◌++◌}
-use native.Mathlib.Omega.{arith}
-use lib.ListN.{length}
+use Rattle.std.specs.Prelude.{ℕ, suc, ◌+◌, ◌≡◌, refl, List, [], ◌∷◌, ◌++◌, length}
+use Rattle.std.proofs.Common.{◌∙◌, arith}
 use Rattle.model.specs.Table.{Entry, Found, none, straight, turned, find}
 use Rattle.model.specs.Decisions.{both}
 

@@ -1,17 +1,9 @@
 -- What the writers of a lent table store.
-use Prim.Native.Nat.{ℕ, suc, ◌+◌, ◌*◌, ◌-◌, ◌/◌, ◌%◌, ◌<◌, ◌≤◌, pred}
-use mathlib.Core.Path.{◌≡◌, refl, sym, ap, ap₂, ◌∙◌}
-use mathlib.Core.List.{List, [], ◌∷◌, ◌++◌, map}
-use native.Mathlib.Omega.{arith}
-use native.Mathlib.Nat.{div-add-mod', mod-lt}
-use native.Mathlib.Numerals.{add-one}
-use lib.ListN.{length, get_or, set, replicate, length-set, length-replicate, get_or-replicate, get_or-eq_default, get_or-map, length-map}
-use lib.Seq.{sets, set_at, get_or-set_same, get_or-set_other, ext_get_or}
-use mathlib.Core.Bool.{Bool, true, false}
-use lib.Dec.{leb}
-use borrow.Author.Tests.{leb-true, leb-false}
-use borrow.Author.Count.{below_none, below_more}
-use Rattle.parts.specs.Limits.{identifier_max, symbols_max, arity_max, rules_max, rule_equations_max, rule_cells_max, agent_size, node_size, rule_size}
+use Rattle.std.specs.Prelude.{ℕ, suc, ◌+◌, ◌*◌, ◌-◌, ◌/◌, ◌%◌, ◌<◌, ◌≤◌, pred, max, ◌≡◌, refl, List, [], ◌∷◌, ◌++◌, map, length, get_or, set, replicate, Bool, true, false, leb}
+use Rattle.std.proofs.Common.{sym, ap, ap₂, ◌∙◌, arith, div-add-mod', mod-lt, add-one, length-set, get_or-set_same, get_or-set_other, ext_get_or, leb-true, leb-false, below_none, below_more}
+use Rattle.std.proofs.Math.ListN.{length-replicate, get_or-replicate, get_or-eq_default, get_or-map, length-map}
+use Rattle.std.proofs.Math.Seq.{sets, set_at}
+use Rattle.parts.specs.Limits.{identifier_max, symbols_max, arity_max, rules_max, rule_equations_max, agent_size, node_size, rule_size}
 use Rattle.parts.specs.Sides.{name, code, side}
 use Rattle.parts.specs.Codes.{code-side}
 use Rattle.model.specs.Table.{find, none}
@@ -26,7 +18,7 @@ use Rattle.table.specs.Laws.Lists.{length-tab, tab_at, row_at, row-past}
 use Rattle.table.specs.Laws.Sides.{sides_of}
 use Rattle.table.specs.Laws.Rows.{length-rule, side_in, node_in}
 use Rattle.table.specs.Laws.Whole.{FitAgents, symbols-are, symbols_in, rules_in_lem, agents_back}
-use Rattle.putting.proofs.Changes.{sets_cons, sets_left, sets_right, sets_whole, agent_more, rule_more}
+use Rattle.putting.proofs.Changes.{sets_cons, sets_left, agent_more, rule_more}
 
 -- Letters stored over zeros.
 filled_none : (n : ℕ) → filled n [] ≡ replicate n 0
@@ -51,24 +43,10 @@ agent_row_way l o n e h =
     ∙ (set_at (filled identifier_max l) 0 [] (n + 1) identifier_max (length-tab identifier_max (λ k. get_or l k 0))
     ∙ ap (λ m. filled identifier_max l ++ (m ∷ [])) (add-one n))
 
--- The numbers of a rule, end to end.
-pub flat_way : (s n a b : List ℕ) (l r e c m : ℕ) → length s ≡ 2 * rule_equations_max → length n ≡ node_size * rule_cells_max
-    → a ≡ sets (replicate rule_size 0) nodes_in n → b ≡ sets a sides_in s
-    → set (set (set (set (set b 0 l) 1 r) 2 e) 3 c) 4 m ≡ l ∷ r ∷ e ∷ c ∷ m ∷ (s ++ n)
-flat_way s n a b l r e c m hs hn ea eb =
-    let a' : a ≡ 0 ∷ 0 ∷ 0 ∷ 0 ∷ 0 ∷ (replicate (2 * rule_equations_max) 0 ++ n) =
-    ea
-    ∙ (sets_right (0 ∷ 0 ∷ 0 ∷ 0 ∷ 0 ∷ replicate (2 * rule_equations_max) 0) (replicate (node_size * rule_cells_max) 0) 0 n
-    ∙ ap (λ k. 0 ∷ 0 ∷ 0 ∷ 0 ∷ 0 ∷ (replicate (2 * rule_equations_max) 0 ++ k))
-    (sets_whole (replicate (node_size * rule_cells_max) 0) n (length-replicate {A = ℕ} (node_size * rule_cells_max) 0 ∙ sym hn))) in
-    let b' : b ≡ 0 ∷ 0 ∷ 0 ∷ 0 ∷ 0 ∷ (s ++ n) =
-    eb
-    ∙ (ap (λ k. sets k sides_in s) a'
-    ∙ (sets_right (0 ∷ 0 ∷ 0 ∷ 0 ∷ 0 ∷ []) (replicate (2 * rule_equations_max) 0 ++ n) 0 s
-    ∙ ap (λ k. 0 ∷ 0 ∷ 0 ∷ 0 ∷ 0 ∷ k)
-    (sets_left (replicate (2 * rule_equations_max) 0) n 0 s (omega (arith, length-replicate {A = ℕ} (2 * rule_equations_max) 0))
-    ∙ ap (λ k. k ++ n) (sets_whole (replicate (2 * rule_equations_max) 0) s (length-replicate {A = ℕ} (2 * rule_equations_max) 0 ∙ sym hs))))) in
-    ap (λ k. set (set (set (set (set k 0 l) 1 r) 2 e) 3 c) 4 m) b'
+-- at least one
+pub max_one : (x : ℕ) → max x 1 ≡ suc (pred x)
+max_one ℕ.zero = refl
+max_one (ℕ.suc x) = omega arith
 
 -- What the row that stands for a row has at each place.
 module _ (ags : List Agent) (r : List ℕ) where
@@ -183,22 +161,20 @@ module _ (ags : List Agent) (r : List ℕ) where
 
 -- A list filled place by place.
 pub record Filling (t o : List ℕ) (i : ℕ) : Type 0 where
-  pub within : i ≤ rule_size
   pub long : length o ≡ rule_size
   pub so_far : (k : ℕ) → k < i → get_or o k 0 ≡ get_or t k 0
 
 pub filling_none : (t : List ℕ) → Filling t (replicate rule_size 0) 0
-filling_none t = record { within = omega arith; long = length-replicate {A = ℕ} rule_size 0; so_far = below_none _ }
+filling_none t = record { long = length-replicate {A = ℕ} rule_size 0; so_far = below_none _ }
 
-pub filling_more : (t o : List ℕ) (i x : ℕ) → Filling t o i → i < rule_size → x ≡ get_or t i 0 → Filling t (set o i x) (i + 1)
+pub filling_more : (t o : List ℕ) (i x : ℕ) → Filling t o i → i < length o → x ≡ get_or t i 0 → Filling t (set o i x) (i + 1)
 filling_more t o i x f h e = record {
-  within = omega arith;
   long = length-set o i x ∙ f.long;
-  so_far = below_more _ i (λ k q. get_or-set_other o i k x 0 (λ z. omega arith) ∙ f.so_far k q) (get_or-set_same o i x 0 (omega (arith, f.long)) ∙ e);
+  so_far = below_more _ i (λ k q. get_or-set_other o i k x 0 (λ z. omega arith) ∙ f.so_far k q) (get_or-set_same o i x 0 h ∙ e);
 }
 
-pub filling_done : (ags : List Agent) (r o : List ℕ) (i : ℕ) → Filling (rule_bytes (entry_of ags r)) o i → rule_size ≤ i → o ≡ rule_bytes (entry_of ags r)
-filling_done ags r o i f h = ext_get_or 0 o (rule_bytes (entry_of ags r)) (f.long ∙ sym (length-rule (entry_of ags r))) (λ k q. f.so_far k (omega (arith, f.long)))
+pub filling_done : (ags : List Agent) (r o : List ℕ) (i : ℕ) → Filling (rule_bytes (entry_of ags r)) o i → length o ≤ i → o ≡ rule_bytes (entry_of ags r)
+filling_done ags r o i f h = ext_get_or 0 o (rule_bytes (entry_of ags r)) (f.long ∙ sym (length-rule (entry_of ags r))) (λ k q. f.so_far k (omega arith))
 
 -- One agent more: n is the count that was read, v the same in another width, and a the row.
 pub put_agent_way : (w a o : List ℕ) (l : List ℕ) (m n v : ℕ) → n ≡ length (agents_in w) → v ≡ n → length (agents_in w) < symbols_max → a ≡ agent_bytes (agent l m)
@@ -208,14 +184,6 @@ put_agent_way w a o l m n v en ev hn ea eo t e =
     ap (λ v. set v 0 (n + 1)) (eo ∙ (ap (λ i. sets w (agents_at + agent_size * i) a) ev ∙ ap₂ (λ v r. sets v (agents_at + agent_size * n) r) e ea))
     ∙ (ap (λ i. set (sets (bytes_of t) (agents_at + agent_size * i) (agent_bytes (agent l m))) 0 (i + 1)) k
     ∙ agent_more t (agent l m) (omega (arith, k, en, hn)))
-
--- The two bytes of a pair of symbols.
-pub pair_way : (w : List ℕ) (a b x y n d : ℕ) → x ≡ a → y ≡ b
-    → set (set w (pairs_at + 2 * (symbols_max * x + y)) n) (pairs_at + 2 * (symbols_max * x + y) + 1) d
-    ≡ sets w (pairs_at + 2 * (symbols_max * a + b)) (n ∷ d ∷ [])
-pair_way w a b x y n d ex ey =
-    ap (λ i. set (set w (pairs_at + 2 * (symbols_max * x + y)) n) i d) (add-one (pairs_at + 2 * (symbols_max * x + y)))
-    ∙ ap₂ (λ i j. sets w (pairs_at + 2 * (symbols_max * i + j)) (n ∷ d ∷ [])) ex ey
 
 -- One rule more, store by store.
 pub ruled_way : (w r a b c d : List ℕ) (n l m : ℕ) → a ≡ sets w (rules_at + rule_size * n) r
@@ -247,7 +215,7 @@ unfolding stands
 by_value w o q rule e f t et ft new =
     f t et ft (ap (λ l. find t.rules 0 (get_or l 0 0) (get_or l 1 0)) e ∙ new) ∙ ap (λ l. bytes_of (with_rule (entry_of t.agents l) t)) e
 
-pub value_room : (w q : List ℕ) (rule : Rule) → q ≡ row rule → length (agents_in w) ≤ symbols_max → rules_in w < rules_max → length q ≡ rule_size
+pub value_room : (w q : List ℕ) (rule : Rule) → q ≡ row rule → length (agents_in w) ≤ symbols_max → rules_in w < rules_max
     → rule.left < symbols_max → rule.right < symbols_max
-    → (length (agents_in w) ≤ symbols_max) × (rules_in w < rules_max) × (length q ≡ rule_size) × (get_or q 0 0 < symbols_max) × (get_or q 1 0 < symbols_max)
-value_room w q rule e a n l hl hr = (a, n, l, omega (arith, ap (λ v. get_or v 0 0) e, hl), omega (arith, ap (λ v. get_or v 1 0) e, hr))
+    → (length (agents_in w) ≤ symbols_max) × (rules_in w < rules_max) × (get_or q 0 0 < symbols_max) × (get_or q 1 0 < symbols_max)
+value_room w q rule e a n hl hr = (a, n, omega (arith, ap (λ v. get_or v 0 0) e, hl), omega (arith, ap (λ v. get_or v 1 0) e, hr))

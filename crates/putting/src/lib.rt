@@ -11,8 +11,8 @@ ghost use Rattle.table.specs.Rule.{row, stands};
 ghost use Rattle.table.specs.Put.{agent, with_agent, with_rule, ruled};
 ghost use Rattle.table.specs.Laws.Whole.{FitAgents};
 
-use parts::Limits;
-use table::reading::{arity_of, copy_in, less_one, rule_count, symbol_count, symbol_no, wide};
+use parts::{Limits, SymbolNo};
+use table::reading::{arity_of, rule_count, symbol_count};
 use table::{Layout, Rule};
 
 // The row of an agent: its letters, zeros, and its arity + 1.
@@ -21,7 +21,7 @@ fn agent_row(letters: &[u8], arity: u8) -> [u8; Limits::AGENT]
     ensures { result ≡ agent_bytes (agent letters.now arity) }
 {
     let mut row = [0u8; Limits::AGENT];
-    copy_in(&mut row, 0, letters);
+    row[..letters.len()].copy_from_slice(letters);
     row[Limits::IDENTIFIER] = arity + 1;
     row
 }
@@ -33,16 +33,20 @@ pub fn put_agent(table: &mut [u8; Limits::TABLE], letters: &[u8], arity: u8)
 {
     let n = symbol_count(table);
     let row = agent_row(letters, arity);
-    put_row(table, Layout::AGENTS_AT + Limits::AGENT * wide(n), &row);
+    put_row(
+        table,
+        Layout::AGENTS_AT + Limits::AGENT * usize::from(n),
+        &row,
+    );
     table[Layout::SYMBOLS_AT] = n + 1;
 }
 
-// A row stored in a table.
-fn put_row<'a>(table: &'a mut [u8], at: usize, row: &'a [u8])
+// A row stored in a table: of an agent or of a rule, so a slice.
+fn put_row(table: &mut [u8], at: usize, row: &[u8])
     requires { at + length row.now ≤ length table.old }
     ensures { table.new ≡ sets table.old at row.now }
 {
-    copy_in(table, at, row);
+    table[at..at + row.len()].copy_from_slice(row);
 }
 
 // The numbers of a rule, end to end.
@@ -50,10 +54,8 @@ pub fn flat(rule: Rule) -> [u8; Limits::RULE]
     ensures { result ≡ row rule }
 {
     let mut out = [0u8; Limits::RULE];
-    let sides = rule.sides;
-    let nodes = rule.nodes;
-    copy_in(&mut out, Layout::NODES_IN, &nodes);
-    copy_in(&mut out, Layout::SIDES_IN, &sides);
+    out[Layout::NODES_IN..].copy_from_slice(&rule.nodes);
+    out[Layout::SIDES_IN..Layout::NODES_IN].copy_from_slice(&rule.sides);
     out[0] = rule.left;
     out[1] = rule.right;
     out[2] = rule.equations;
@@ -62,21 +64,12 @@ pub fn flat(rule: Rule) -> [u8; Limits::RULE]
     out
 }
 
-fn at_least_one(x: u8) -> u8
-    ensures { result ≡ suc (pred x) }
-{
-    if x == 0 {
-        return 1;
-    }
-    x
-}
-
 // Byte p of a rule's row where the row ends with its equations, and 0 past the last of them.
-fn kept_side(table: &[u8; Limits::TABLE], row: &[u8], p: usize) -> u8
-    requires { (length row.now ≡ rule_size) × (p < nodes_in) }
+fn kept_side(table: &[u8; Limits::TABLE], row: &[u8; Limits::RULE], p: usize) -> u8
+    requires { p < nodes_in }
     ensures { result ≡ get_or (rule_bytes (entry_of (agents_in table.now) row.now)) p 0 }
 {
-    let n = wide(row[2]);
+    let n = usize::from(row[2]);
     if Layout::SIDES_IN + 2 * n <= p {
         return 0;
     }
@@ -84,29 +77,30 @@ fn kept_side(table: &[u8; Limits::TABLE], row: &[u8], p: usize) -> u8
 }
 
 // The same among the cells: 0 past the last of them, and past the arguments of each.
-fn kept_node(table: &[u8; Limits::TABLE], row: &[u8], p: usize) -> u8
-    requires { (length (agents_in table.now) ≤ symbols_max) × (length row.now ≡ rule_size) × (nodes_in ≤ p) × (p < rule_size) }
+fn kept_node(table: &[u8; Limits::TABLE], row: &[u8; Limits::RULE], p: usize) -> u8
+    requires { (length (agents_in table.now) ≤ symbols_max) × (nodes_in ≤ p) × (p < rule_size) }
     ensures { result ≡ get_or (rule_bytes (entry_of (agents_in table.now) row.now)) p 0 }
 {
     let c = (p - Layout::NODES_IN) / Limits::NODE;
     let j = (p - Layout::NODES_IN) % Limits::NODE;
-    let n = wide(row[3]);
+    let n = usize::from(row[3]);
     if n <= c {
         return 0;
     }
     let head = row[Layout::NODES_IN + Limits::NODE * c];
     if j == 0 {
-        return at_least_one(head);
+        return head.max(1);
     }
-    let arity = wide(arity_of(table, symbol_no(less_one(head))));
+    let symbol = SymbolNo(u16::from(head.saturating_sub(1)));
+    let arity = usize::from(arity_of(table, symbol));
     if arity < j {
         return 0;
     }
     row[p]
 }
 
-fn kept(table: &[u8; Limits::TABLE], row: &[u8], p: usize) -> u8
-    requires { (length (agents_in table.now) ≤ symbols_max) × (length row.now ≡ rule_size) × (p < rule_size) }
+fn kept(table: &[u8; Limits::TABLE], row: &[u8; Limits::RULE], p: usize) -> u8
+    requires { (length (agents_in table.now) ≤ symbols_max) × (p < rule_size) }
     ensures { result ≡ get_or (rule_bytes (entry_of (agents_in table.now) row.now)) p 0 }
 {
     if p < Layout::NODES_IN {
@@ -116,25 +110,24 @@ fn kept(table: &[u8; Limits::TABLE], row: &[u8], p: usize) -> u8
 }
 
 // A row with zeros where the rule that it stands for has nothing: the rule's row in a table with these agents.
-fn rule_row(table: &[u8; Limits::TABLE], row: &[u8]) -> [u8; Limits::RULE]
-    requires { (length (agents_in table.now) ≤ symbols_max) × (length row.now ≡ rule_size) }
+fn rule_row(table: &[u8; Limits::TABLE], row: &[u8; Limits::RULE]) -> [u8; Limits::RULE]
+    requires { length (agents_in table.now) ≤ symbols_max }
     ensures { result ≡ rule_bytes (entry_of (agents_in table.now) row.now) }
 {
     let mut out = [0u8; Limits::RULE];
-    let mut p: usize = 0;
-    while p < Limits::RULE {
-        out[p] = kept(table, row, p);
-        p += 1;
+    for (p, b) in out.iter_mut().enumerate() {
+        *b = kept(table, row, p);
     }
     out
 }
 
 // The index of pairs says which rule, and 1 for the order in which it is written or 2 for the other.
+// The way is the byte that is stored, and no enum: the promises speak of the bytes of the lent table.
 fn put_pair(table: &mut [u8], a: u8, b: u8, number: u8, way: u8)
     requires { (length table.old ≡ table_size) × (a < symbols_max) × (b < symbols_max) }
     ensures { table.new ≡ sets table.old (pairs_at + 2 * (symbols_max * a + b)) (number ∷ way ∷ []) }
 {
-    let i = Layout::PAIRS_AT + 2 * (Limits::SYMBOLS * wide(a) + wide(b));
+    let i = Layout::PAIRS_AT + 2 * (Limits::SYMBOLS * usize::from(a) + usize::from(b));
     table[i] = number;
     table[i + 1] = way;
 }
@@ -144,8 +137,9 @@ fn put_count(table: &mut [u8], n: u16)
     requires { length table.old ≡ table_size }
     ensures { table.new ≡ set (set table.old count_at (n % 256)) (1 + count_at) (n / 256) }
 {
-    table[Layout::COUNT_AT] = (n % 256) as u8;
-    table[1 + Layout::COUNT_AT] = (n / 256) as u8;
+    let [low, high] = n.to_le_bytes();
+    table[Layout::COUNT_AT] = low;
+    table[1 + Layout::COUNT_AT] = high;
 }
 
 // One rule more, the row of which is written out: the row, the pair, first as it is not written, and the count.
@@ -159,7 +153,12 @@ fn put_rule_row(
     requires { (n < rules_max) × (left < symbols_max) × (right < symbols_max) }
     ensures { table.new ≡ ruled table.old row n left right }
 {
-    put_row(table, Layout::RULES_AT + Limits::RULE * (n as usize), &row);
+    put_row(
+        table,
+        Layout::RULES_AT + Limits::RULE * usize::from(n),
+        &row,
+    );
+    // A table has at most 256 rules, so a number fits a byte; `u8::try_from` would bring a refusal that cannot come.
     let number = n as u8;
     put_pair(table, right, left, number, 2);
     put_pair(table, left, right, number, 1);
@@ -167,8 +166,8 @@ fn put_rule_row(
 }
 
 // One rule more, by its numbers end to end. Its pair must have none.
-pub fn put_numbers(table: &mut [u8; Limits::TABLE], row: &[u8])
-    requires { (length (agents_in table.old) ≤ symbols_max) × (rules_in table.old < rules_max) × (length row.now ≡ rule_size)
+pub fn put_numbers(table: &mut [u8; Limits::TABLE], row: &[u8; Limits::RULE])
+    requires { (length (agents_in table.old) ≤ symbols_max) × (rules_in table.old < rules_max)
         × (get_or row.now 0 0 < symbols_max) × (get_or row.now 1 0 < symbols_max) }
     ensures { (t : Table) → table.old ≡ bytes_of t → FitAgents t.agents
         → find t.rules 0 (get_or row.now 0 0) (get_or row.now 1 0) ≡ none

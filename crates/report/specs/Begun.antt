@@ -5,13 +5,18 @@ use Rattle.std.proofs.Common.{append_assoc, append-nil, arith}
 use Rattle.texts.specs.Bytes.{Word, text_of, line_of, tabbed}
 use Rattle.printing.specs.Puts.{Puts}
 use Rattle.report.specs.Numbers.{digits, number_max}
-use Rattle.report.specs.Firsts.{word_refused, word_ran, word_ended, refusal, stopped, ended, word_max, first_max}
-use Rattle.report.specs.Stores.{puts_then, digits-short}
+use Rattle.report.specs.Firsts.{word_ran, word_ended, ended, word_max, first_max}
+use Rattle.printing.proofs.Stores.{puts_then}
+use Rattle.report.specs.Stores.{digits-short}
 
 -- The bytes bs stand at the start of the output, and r is the place after them.
 pub record Begun (bs o : List ℕ) (r : ℕ) (o' : List ℕ) : Type 0 where
   pub puts : Puts bs 0 o r o'
   pub within : r ≤ first_max
+
+-- A line of two words and two numbers.
+abbrev pub line_of_four : Word → Word → ℕ → ℕ → List ℕ
+line_of_four v w m n = text_of (line_of v (w ∷ digits m ∷ digits n ∷ []) ∷ [])
 
 -- A tab and a word, and how long a number is with its tab.
 pub tab-then : (w o o₁ o₂ : List ℕ) (at p r : ℕ) → Puts (9 ∷ []) at o p o₁ → Puts w p o₁ r o₂ → Puts (9 ∷ w) at o r o₂
@@ -36,22 +41,12 @@ module _ (v w m n k l : Word) where
   unfolding text_of line_of tabbed
   six = simp (append_assoc, append-nil)
 
-module _ (w : Word) (m n : ℕ) (o o₁ o₂ o₃ o₄ o₅ : List ℕ) (a b c d r : ℕ) (short : length w ≤ word_max) where
-  pub refusal_put : Puts word_refused 0 o a o₁ → Puts (9 ∷ w) a o₁ b o₂ → Puts (9 ∷ digits m) b o₂ c o₃ → c ≤ b + number_max
-      → Puts (9 ∷ digits n) c o₃ d o₄ → d ≤ c + number_max → Puts (10 ∷ []) d o₄ r o₅ → Begun (refusal w m n) o r o₅
-  unfolding refusal
-  refusal_put p q s f t g u =
+module _ (v w : Word) (m n : ℕ) (o o₁ o₂ o₃ o₄ o₅ : List ℕ) (a b c d r : ℕ) (first : length v ≤ word_max) (second : length w ≤ word_max) where
+  pub line_put : Puts v 0 o a o₁ → Puts (9 ∷ w) a o₁ b o₂ → Puts (9 ∷ digits m) b o₂ c o₃ → c ≤ b + number_max
+      → Puts (9 ∷ digits n) c o₃ d o₄ → d ≤ c + number_max → Puts (10 ∷ []) d o₄ r o₅ → Begun (line_of_four v w m n) o r o₅
+  line_put p q s f t g u =
       record {
-        puts = subst (λ l. Puts l 0 o r o₅) (four word_refused w (digits m) (digits n)) (puts_then p (puts_then q (puts_then s (puts_then t u))));
-        within = omega (arith, p.place, q.place, u.place);
-      }
-
-  pub stopped_put : Puts word_ran 0 o a o₁ → Puts (9 ∷ w) a o₁ b o₂ → Puts (9 ∷ digits m) b o₂ c o₃ → c ≤ b + number_max
-      → Puts (9 ∷ digits n) c o₃ d o₄ → d ≤ c + number_max → Puts (10 ∷ []) d o₄ r o₅ → Begun (stopped w m n) o r o₅
-  unfolding stopped
-  stopped_put p q s f t g u =
-      record {
-        puts = subst (λ l. Puts l 0 o r o₅) (four word_ran w (digits m) (digits n)) (puts_then p (puts_then q (puts_then s (puts_then t u))));
+        puts = subst (λ l. Puts l 0 o r o₅) (four v w (digits m) (digits n)) (puts_then p (puts_then q (puts_then s (puts_then t u))));
         within = omega (arith, p.place, q.place, u.place);
       }
 

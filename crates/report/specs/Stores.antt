@@ -1,56 +1,12 @@
 -- Bytes stored one run after another, and how long a number and a first line are.
-use Rattle.std.specs.Prelude.{ℕ, zero, suc, ◌+◌, ◌*◌, ◌/◌, ◌%◌, ◌<◌, ◌≤◌, ◌≡◌, refl, List, [], ◌∷◌, ◌++◌, length, get_or, set, take}
-use Rattle.std.proofs.Common.{sym, ap, ◌∙◌, subst, div-lt_iff_lt-mul, mod-eq_of_lt, arith, add-one, length-append, take-suc, take_all}
+use Rattle.std.specs.Prelude.{ℕ, zero, suc, ◌+◌, ◌*◌, ◌/◌, ◌%◌, ◌<◌, ◌≤◌, ◌≡◌, refl, List, [], ◌∷◌, ◌++◌, length}
+use Rattle.std.proofs.Common.{sym, ap, ◌∙◌, div-lt_iff_lt-mul, mod-eq_of_lt, arith, length-append}
 use Rattle.std.proofs.Math.Nat.{div-eq_of_lt, div-lt_self}
 use Rattle.std.proofs.Math.Decide.{dec_lt}
-use Rattle.std.proofs.lemmas.List.Edits.{sets}
-use Rattle.std.proofs.Math.Seq.{length-sets}
 use Rattle.texts.specs.Bytes.{Word}
 use Rattle.printing.specs.Puts.{Puts}
+use Rattle.printing.proofs.Stores.{puts_then, puts-long}
 use Rattle.report.specs.Numbers.{last, grown, spelt, digits}
-
-sets_append : (a b o : List ℕ) (n : ℕ) → sets o n (a ++ b) ≡ sets (sets o n a) (n + length a) b
-sets_append [] b o n = let z : n + 0 ≡ n = omega arith in rw z
-sets_append (x ∷ xs) b o n =
-    let z : n + suc (length xs) ≡ suc n + length xs = omega arith in rw z (sets_append xs b (set o n x) (suc n))
-
-pub puts_none : (o : List ℕ) (at : ℕ) → Puts [] at o at o
-puts_none o at = record { place = omega arith; bytes = refl }
-
-pub puts_then : {a b o o₁ o₂ : List ℕ} {at p r : ℕ} → Puts a at o p o₁ → Puts b p o₁ r o₂ → Puts (a ++ b) at o r o₂
-puts_then {a} {b} {o} {o₁} {o₂} {at} {p} {r} s t =
-    record {
-      place = omega (arith, s.place, t.place, length-append a b);
-      bytes = t.bytes ∙ (ap (λ l. sets l p b) s.bytes ∙ (ap (λ n. sets (sets o at a) n b) s.place ∙ sym (sets_append a b o at)));
-    }
-
-pub puts-long : {a o o₁ : List ℕ} {at p : ℕ} → Puts a at o p o₁ → length o₁ ≡ length o
-puts-long {a} {o} {o₁} {at} {p} s = ap length s.bytes ∙ length-sets o at a
-
--- After i bytes of a word.
-pub record Storing (word : List ℕ) (at : ℕ) (o₀ : List ℕ) (i p : ℕ) (o : List ℕ) : Type 0 where
-  pub within : i ≤ length word
-  pub place : p ≡ at + i
-  pub long : length o ≡ length o₀
-  pub puts : Puts (take i word) at o₀ p o
-
-module _ (word : List ℕ) (at : ℕ) (o₀ : List ℕ) where
-  pub storing_none : Storing word at o₀ 0 at o₀
-  storing_none = record { within = omega arith; place = omega arith; long = refl; puts = puts_none o₀ at }
-
-  module _ (i p : ℕ) (o : List ℕ) (s : Storing word at o₀ i p o) where
-    pub storing_more : (q : ℕ) (o₁ : List ℕ) → i < length word → Puts (get_or word i 0 ∷ []) p o q o₁
-        → Storing word at o₀ (i + 1) q o₁
-    storing_more q o₁ h t =
-        record {
-          within = omega arith;
-          place = omega (arith, s.place, t.place);
-          long = puts-long t ∙ s.long;
-          puts = rw (add-one i, take-suc word i 0 h) (puts_then s.puts t);
-        }
-
-    pub storing_end : length word ≤ i → Puts word at o₀ p o
-    storing_end h = subst (λ l. Puts l at o₀ p o) (take_all i word h) s.puts
 
 -- The digits of a number do not depend on the number that bounds the calls.
 tenth : (n m : ℕ) → n / 10 ≡ suc m → suc m < n

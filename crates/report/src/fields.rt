@@ -1,24 +1,11 @@
-// What stands in a line: bytes, a number in decimal, and fields, each after a tab.
+// What stands in a line: a number in decimal, and fields, each after a tab.
 ghost use Rattle.std.specs.Prelude.{◌∷◌, ◌+◌, ◌≤◌, length};
 ghost use Rattle.printing.specs.Puts.{Puts, far};
 ghost use Rattle.report.specs.Numbers.{digits, number_max};
 
-use printing::leaves::put;
+use printing::leaves::{put, put_bytes};
 
-// The bytes of a word, or of any other text.
-pub fn put_bytes(out: &mut [u8], at: usize, word: &[u8]) -> usize
-    requires { at + length word.now ≤ far }
-    ensures { Puts word.now at out.old result out.new }
-{
-    let mut p = at;
-    let mut i: usize = 0;
-    while i < word.len() {
-        p = put(out, p, word[i]);
-        i += 1;
-    }
-    p
-}
-
+// By hand and not by `Display`: a run on an output without room measures the answer, so what is not stored is counted too, and nothing allocates.
 // A number in decimal, its last digit last.
 fn put_number(out: &mut [u8], at: usize, n: usize) -> usize
     requires { at + length (digits n) ≤ far }

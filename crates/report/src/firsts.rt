@@ -1,10 +1,10 @@
 // The first line of what is printed. It goes to the start of the output, and the place after it is handed back.
 ghost use Rattle.std.specs.Prelude.{◌≤◌, length};
+ghost use Rattle.report.specs.Begun.{Begun, line_of_four};
 ghost use Rattle.report.specs.Firsts.{refusal, stopped, ended, word_max};
-ghost use Rattle.report.specs.Begun.{Begun};
 
-use crate::fields::{put_bytes, put_field, put_number_field};
-use printing::leaves::put;
+use crate::fields::{put_field, put_number_field};
+use printing::leaves::{put, put_bytes};
 
 // The room that a first line may take: words of at most 8 bytes and numbers of at most 20 digits.
 #[derive(Clone, Copy)]
@@ -14,28 +14,35 @@ impl First {
     pub const SIZE: usize = 128;
 }
 
+// A line of two words and two numbers, parted by tabs.
+fn put_line(out: &mut [u8], first: &[u8], second: &[u8], m: usize, n: usize) -> usize
+    requires { (length first.now ≤ word_max) × (length second.now ≤ word_max) }
+    ensures { Begun (line_of_four first.now second.now m n) out.old result out.new }
+{
+    let a = put_bytes(out, 0, first);
+    let b = put_field(out, a, second);
+    let c = put_number_field(out, b, m);
+    let d = put_number_field(out, c, n);
+    put(out, d, b'\n')
+}
+
 // "A refusal prints `refused`, `rules` or `net` or `answer`, number, line".
+#[tactic(auto, unfolding(crate::specs::Firsts::refusal))]
 pub fn put_refusal(out: &mut [u8], of: &[u8], number: usize, line: usize) -> usize
     requires { length of.now ≤ word_max }
     ensures { Begun (refusal of.now number line) out.old result out.new }
 {
-    let a = put_bytes(out, 0, b"refused");
-    let b = put_field(out, a, of);
-    let c = put_number_field(out, b, number);
-    let d = put_number_field(out, c, line);
-    put(out, d, b'\n')
+    put_line(out, b"refused", of, number, line)
 }
 
 // "For paused and noroom only the first line, with its first four fields."
+// It and `put_refusal` both stand over `put_line`: each names its first word and promises a line of its own.
+#[tactic(auto, unfolding(crate::specs::Firsts::stopped))]
 pub fn put_stopped(out: &mut [u8], word: &[u8], made: usize, loops: usize) -> usize
     requires { length word.now ≤ word_max }
     ensures { Begun (stopped word.now made loops) out.old result out.new }
 {
-    let a = put_bytes(out, 0, b"ran");
-    let b = put_field(out, a, word);
-    let c = put_number_field(out, b, made);
-    let d = put_number_field(out, c, loops);
-    put(out, d, b'\n')
+    put_line(out, b"ran", word, made, loops)
 }
 
 // "First line: `ran`, word, interactions, loops, stuck pairs, knot cells."

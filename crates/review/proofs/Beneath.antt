@@ -7,6 +7,7 @@ pub mod Exist
 pub mod FewNames
 pub mod LoadedSo
 pub mod Made
+pub mod Numbers
 pub mod OneRun
 pub mod OnlyLoaded
 pub mod Reading

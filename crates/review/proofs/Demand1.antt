@@ -23,10 +23,8 @@
 --   17  budget above the size                               run_17
 --
 -- That each call has an answer, and only one, stands in Answered.
-use Rattle.machine.specs.declared.calls.StepAnswer.TheVariants as Step
-use Rattle.machine.specs.declared.calls.RunAnswer.TheVariants as Run
-use Rattle.answer.specs.declared.EndAnswer.TheVariants as End
-use Rattle.std.specs.Prelude.{◌≤◌, ◌<◌, ◌≡◌, ◌↔◌}
+use Rattle.parts.specs.declared.faults.Fault.TheVariants as Why
+use Rattle.std.specs.Prelude.{◌≤◌, ◌<◌, ◌≡◌, ◌↔◌, Err}
 use Rattle.review.specs.Words.{ℕ, List, length, budget_max, picked, NoRoom, view, under, BothSound}
 use Rattle.review.specs.Promises.{StateArray, StepCall, RunCall, AnswerCall, lines_of_net}
 use Rattle.review.proofs.Beneath.Calls.{step_unsound, step_no_pick, step_no_room, run_unsound, run_too_much, answer_unsound, answer-waits, answer-long}
@@ -36,42 +34,42 @@ use Rattle.review.proofs.Beneath.Calls.{step_unsound, step_no_pick, step_no_room
 module _ {w v v' : List ℕ} {p : ℕ} (lent : StateArray v) (after : StateArray v') where
   -- 16: "rule table or state lent is not sound". ("A sound table is one that some rule text would give if its length had no
   -- limit": it is that of a good book, and `rules-spelt` in Demand2 says that a rule text gives just such a table.)
-  pub step_16 : StepCall w v p Step.Unsound v' ↔ ((¬ BothSound w v) × (v' ≡ v))
+  pub step_16 : StepCall w v p (Err Why.Unsound) v' ↔ ((¬ BothSound w v) × (v' ≡ v))
   step_16 = step_unsound lent after
 
   -- 12: "pick at or past the number waiting".
-  pub step_12 : StepCall w v p Step.NoPick v' ↔ (BothSound w v × ((view v).waiting.used ≤ p) × (v' ≡ v))
+  pub step_12 : StepCall w v p (Err Why.NoPick) v' ↔ (BothSound w v × ((view v).waiting.used ≤ p) × (v' ≡ v))
   step_12 = step_no_pick lent after
 
   -- 13: "no room", "decided on the picked equation alone": `NoRoom` has document 01's three cases of an interaction, and
   -- the loop. "It is given in no other case."
-  pub step_13 : StepCall w v p Step.NoRoom v'
+  pub step_13 : StepCall w v p (Err Why.NoRoom) v'
       ↔ (BothSound w v × (p < (view v).waiting.used) × NoRoom (under w) (view v) (picked (view v) p) × (v' ≡ v))
   step_13 = step_no_room lent after
 
 -- RUN. "16 first, then 17". ("A stopped run is not a refused call": `run_is` in Demand2.)
 module _ {w v v' : List ℕ} {budget : ℕ} (lent : StateArray v) (after : StateArray v') where
   -- 16: "rule table or state lent is not sound".
-  pub run_16 : RunCall w v budget Run.Unsound v' ↔ ((¬ BothSound w v) × (v' ≡ v))
+  pub run_16 : RunCall w v budget (Err Why.Unsound) v' ↔ ((¬ BothSound w v) × (v' ≡ v))
   run_16 = run_unsound lent after
 
   -- 17: "budget above 1,000,000".
-  pub run_17 : RunCall w v budget Run.TooMuch v' ↔ (BothSound w v × (budget_max < budget) × (v' ≡ v))
+  pub run_17 : RunCall w v budget (Err Why.LargeBudget) v' ↔ (BothSound w v × (budget_max < budget) × (v' ≡ v))
   run_17 = run_too_much lent after
 
 -- READ_ANSWER. "16 first, then [..] 14, [..] 15". Table and state are only read. (`answer-read` in Demand2 says when the
 -- answer is read, and what it is.)
 module _ {w v o o' : List ℕ} where
   -- 16: "rule table or state lent is not sound".
-  pub answer_16 : AnswerCall w v o End.Unsound o' ↔ ((¬ BothSound w v) × (o' ≡ o))
+  pub answer_16 : AnswerCall w v o (Err Why.Unsound) o' ↔ ((¬ BothSound w v) × (o' ≡ o))
   answer_16 = answer_unsound
 
   -- 14: "answer asked for while equations wait".
-  pub answer_14 : AnswerCall w v o End.Waits o' ↔ (BothSound w v × (0 < (view v).waiting.used) × (o' ≡ o))
+  pub answer_14 : AnswerCall w v o (Err Why.Waits) o' ↔ (BothSound w v × (0 < (view v).waiting.used) × (o' ≡ o))
   answer_14 = answer-waits
 
   -- 15: "answer longer than the output buffer": the lines are those of the net that the state stands for, however its
   -- soundness is shown (`one_meaning`, Demand2).
-  pub answer_15 : AnswerCall w v o End.Long o'
+  pub answer_15 : AnswerCall w v o (Err Why.LongAnswer) o'
       ↔ ((h : BothSound w v) × ((view v).waiting.used ≡ 0) × (length o < length (lines_of_net h)) × (o' ≡ o))
   answer_15 = answer-long

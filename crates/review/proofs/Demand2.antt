@@ -7,13 +7,9 @@ use Rattle.texts.proofs.Main as Texts
 use Rattle.model.proofs.Kept as Model
 use Rattle.answers.specs.Collected.{Collects, numbered, fresh}
 use Rattle.answers.proofs.Main as Ended
-use Rattle.rules.specs.declared.RulesAnswer.TheVariants as Rules
-use Rattle.nets.specs.declared.NetAnswer.TheVariants as Net
-use Rattle.machine.specs.declared.calls.StepAnswer.TheVariants as Step
-use Rattle.machine.specs.declared.calls.RunAnswer.TheVariants as Run
-use Rattle.answer.specs.declared.EndAnswer.TheVariants as End
-use Rattle.std.specs.Prelude.{◌+◌, ◌≤◌, ◌<◌, ◌≡◌, ◌↔◌}
-use Rattle.review.specs.Words.{ℕ, List, length, text_max, budget_max, ◌≈◌, Conf, Book, Net, print_book, print_net, table_of, machine, load, meant_net, GoodBook, GoodNet, St, Table, place, taken_out, picked, rule_at, Stop, loaded, Sound, book, meaning, Row, view, under, table_bytes, agents_in, BothSound, sound_table_lem, sound-state, agents, tied_agents, net_agents, Collected, Substituted, Knotted, RunAnswer}
+use Rattle.parts.specs.declared.faults.Fault.TheVariants as Why
+use Rattle.std.specs.Prelude.{◌+◌, ◌≤◌, ◌<◌, ◌≡◌, ◌↔◌, Ok, Err}
+use Rattle.review.specs.Words.{ℕ, List, length, text_max, budget_max, ◌≈◌, Conf, Book, Net, print_book, print_net, table_of, machine, load, meant_net, GoodBook, GoodNet, St, Table, place, taken_out, picked, rule_at, Stop, loaded, Sound, book, meaning, Row, view, under, table_bytes, agents_in, BothSound, sound_table_lem, sound-state, agents, tied_agents, net_agents, Collected, Substituted, Knotted, RunAnswer, end_of}
 use Rattle.review.specs.Promises.{RulesCall, NetCall, StepCall, RunCall, AnswerCall, Printed, net_answer}
 use Rattle.review.specs.Picks.{RunSteps, stop_answer}
 use Rattle.review.specs.Rulebook.{Written, ReadWritten}
@@ -24,7 +20,7 @@ use Rattle.review.proofs.Beneath.{Calls.step-made as made-exactly, Steps.step_so
 -- THE RULE TEXT
 -- "An accepted text means exactly what it spells": a rule text is accepted exactly if it is a good book as it is printed,
 -- and the table is then, in every byte, that of this book.
-pub rules-spelt : (text table u : List ℕ) → RulesCall text table Rules.Accepted u
+pub rules-spelt : (text table u : List ℕ) → RulesCall text table (Ok tt) u
     ↔ ((b : Book) × (text ≡ print_book b) × GoodBook b × (length text ≤ text_max) × (u ≡ table_bytes b))
 rules-spelt text table u = (book-spelt text table u, λ (b, p, g, l, q). spelt-book text table u b p g l q)
 
@@ -58,7 +54,7 @@ table-code = bytes-code
 -- THE NET TEXT
 -- A net text over the table of a book is accepted exactly if it is a good net as it is printed, and the state is then
 -- this net loaded.
-pub net-spelt : (text : List ℕ) (b : Book) → GoodBook b → (v v' : List ℕ) → NetCall text (table_bytes b) v Net.Accepted v'
+pub net-spelt : (text : List ℕ) (b : Book) → GoodBook b → (v v' : List ℕ) → NetCall text (table_bytes b) v (Ok tt) v'
     ↔ ((n : Net)
     × (text ≡ print_net n)
     × GoodNet b.agents n
@@ -92,20 +88,20 @@ one_meaning h k = Model.one_meaning (sound-state h) (sound-state k)
 -- number waiting, and some row of the step table has the picked equation in its left column and the state after it in its
 -- right one.
 pub step-made : {w v v' : List ℕ} {p : ℕ}
-    → StepCall w v p Step.Moved v'
+    → StepCall w v p (Ok tt) v'
     ↔ (BothSound w v
     × (p < (view v).waiting.used)
     × Row (under w) (taken_out (place (view v) p) (view v)) (picked (view v) p) (view v'))
 step-made = made-exactly
 
 -- What it leaves is sound.
-pub step_sound : {w v : List ℕ} {p : ℕ} {v' : List ℕ} → StepCall w v p Step.Moved v' → BothSound w v'
+pub step_sound : {w v : List ℕ} {p : ℕ} {v' : List ℕ} → StepCall w v p (Ok tt) v' → BothSound w v'
 step_sound = step_sound_after
 
 -- "Read as a net, with loops counted as x = x, it is no change, one or two Communications, or one Interaction": by the very
 -- rule of the pair, as it is written.
 pub step-read : (b : Book) → GoodBook b → {w v : List ℕ} {p : ℕ} {v' : List ℕ} → w ≡ table_bytes b
-    → StepCall w v p Step.Moved v' → (h : BothSound w v) (k : BothSound w v')
+    → StepCall w v p (Ok tt) v' → (h : BothSound w v) (k : BothSound w v')
     → ReadWritten b (rule_at (under w) (view v) p) (meaning (sound-state h)) (meaning (sound-state k))
 step-read = step-reads
 
@@ -118,14 +114,14 @@ pub run_is : {w v : List ℕ} {budget : ℕ} {v' : List ℕ} (t : Stop) (n : ℕ
 run_is t n = run_exactly_steps t n (told-stop t n)
 
 -- What it leaves is sound.
-pub run_sound : {w v : List ℕ} {budget : ℕ} {r : RunAnswer} {v' : List ℕ} → RunCall w v budget r v' → ¬ (r ≡ Run.Unsound)
+pub run_sound : {w v : List ℕ} {budget : ℕ} {r : RunAnswer} {v' : List ℕ} → RunCall w v budget r v' → ¬ (r ≡ Err Why.Unsound)
     → BothSound w v'
 run_sound = run-sound_after
 
 -- THE ANSWER
 -- "The printed answer is the ended net with its ties followed": the answer is read exactly if it is printed so.
 pub answer-read : {w v o : List ℕ} {l n k m : ℕ} {o' : List ℕ}
-    → AnswerCall w v o (End.Read l n k m) o' ↔ Printed w v o l n k m o'
+    → AnswerCall w v o (end_of l n k m) o' ↔ Printed w v o l n k m o'
 answer-read = (answer-printed, printed-answer)
 
 -- That answer comes about by the published rules: the interface by Collects, the stuck pairs by Substitutions into them.

@@ -1,19 +1,16 @@
 -- Demand 3: whichever waiting equation is picked at each step, an accepted net ends after the same interactions, at the
 -- same net; so one ship can't get two tonnages.
 use Rattle.calculus.specs.Order as Order
-use Rattle.rules.specs.declared.RulesAnswer.TheVariants as Rules
-use Rattle.nets.specs.declared.NetAnswer.TheVariants as Nets
-use Rattle.answer.specs.declared.EndAnswer.TheVariants as End
-use Rattle.std.specs.Prelude.{◌+◌, ◌*◌, ◌≤◌, ◌≡◌}
-use Rattle.review.specs.Words.{ℕ, List, length, count, Label, ◌≈◌, Conf, used, over, right, Stop, meaning, view, under, BothSound, sound-state, StepAnswer, RunAnswer}
+use Rattle.std.specs.Prelude.{◌+◌, ◌*◌, ◌≤◌, ◌≡◌, Ok}
+use Rattle.review.specs.Words.{ℕ, List, length, count, Label, ◌≈◌, Conf, used, over, right, Stop, meaning, view, under, BothSound, sound-state, StepAnswer, RunAnswer, end_of}
 use Rattle.review.specs.Promises.{RulesCall, NetCall, StepCall, RunCall, AnswerCall}
 use Rattle.review.proofs.Demand2.{answer-read}
 use Rattle.review.specs.Picks.{Accepted, Ends, stop_answer, Call, Moves, Agreed, Calls, ComesToEnd, OneTonnage}
 use Rattle.review.proofs.Beneath.{Started.both-spelt, Started.start_sound, Walking.step_call, Walking.run_call, Walking.moves-sound, Ways.moves-agree, Ways.cells, Ways.comes_to_end, Ways.run_agrees, Ways.ways_agree, Ways.tonnage}
 
 -- Two texts that the two readers accept, one after the other, spell a book and a net.
-pub two_texts : (rules table w net state v : List ℕ) → RulesCall rules table Rules.Accepted w
-    → NetCall net w state Nets.Accepted v → Accepted rules net w v
+pub two_texts : (rules table w net state v : List ℕ) → RulesCall rules table (Ok tt) w
+    → NetCall net w state (Ok tt) v → Accepted rules net w v
 two_texts = both-spelt
 
 -- Whatever is answered, a call of step and a call of run is one of those that demand 3 speaks of.
@@ -77,6 +74,6 @@ module _ {rules net w v : List ℕ} (a : Accepted rules net w v) where
   -- the stuck pairs, and with it the numbers of the names first met in them, depend on the order of steps.
   pub one_tonnage : {is js v₁ v₂ : List ℕ} → Moves w v is v₁ → Moves w v js v₂
       → {o₁ o₂ out₁ out₂ : List ℕ} {l₁ n₁ k₁ m₁ l₂ n₂ k₂ m₂ : ℕ}
-      → AnswerCall w v₁ o₁ (End.Read l₁ n₁ k₁ m₁) out₁ → AnswerCall w v₂ o₂ (End.Read l₂ n₂ k₂ m₂) out₂
+      → AnswerCall w v₁ o₁ (end_of l₁ n₁ k₁ m₁) out₁ → AnswerCall w v₂ o₂ (end_of l₂ n₂ k₂ m₂) out₂
       → OneTonnage n₁ k₁ m₁ out₁ n₂ k₂ m₂ out₂
   one_tonnage m n c d = tonnage (accepted-sound a) m n (answer-read.0 c) (answer-read.0 d)

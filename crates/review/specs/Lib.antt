@@ -3,4 +3,5 @@ pub mod Loads
 pub mod Picks
 pub mod Promises
 pub mod Rulebook
+pub mod Answers
 pub mod Words

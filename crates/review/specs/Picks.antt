@@ -1,10 +1,8 @@
 -- The words of demand 3: its premise, calls of step and run one after another, and where they come to.
 use Rattle.calculus.specs.Order as Order
-use Rattle.rules.specs.declared.RulesAnswer.TheVariants as Rules
-use Rattle.nets.specs.declared.NetAnswer.TheVariants as Nets
-use Rattle.machine.specs.declared.calls.StepAnswer.TheVariants as Answer
-use Rattle.machine.specs.declared.calls.RunAnswer.TheVariants as Run
-use Rattle.std.specs.Prelude.{◌-◌, ◌≤◌, ◌<◌, ◌≡◌, ◌∷◌, ◌++◌, ◌⊎◌}
+use Rattle.parts.specs.declared.faults.Fault.TheVariants as Why
+use Rattle.machine.specs.declared.outcome.Stop.TheVariants as Code
+use Rattle.std.specs.Prelude.{◌-◌, ◌≤◌, ◌<◌, ◌≡◌, ◌∷◌, ◌++◌, ◌⊎◌, Ok, Err}
 use Rattle.review.specs.Words.{ℕ, zero, suc, List, [], length, count, Label, Step, Steps, Normal, ◌≈◌, Conf, Book, Net, print_book, print_net, GoodBook, GoodNet, meant_net, Found, picked, rule_at, NoRoom, Stop, ended, paused, noroom, meaning, view, under, BothSound, sound-state, StepAnswer, RunAnswer}
 use Rattle.review.specs.Promises.{RulesCall, NetCall, StepCall, RunCall}
 use Rattle.review.specs.Rulebook.{Written}
@@ -18,8 +16,8 @@ pub record Accepted (rules net w v : List ℕ) : Type 0 where
   pub good_net : GoodNet book.agents spelt
   pub rules_is : rules ≡ print_book book
   pub net_is : net ≡ print_net spelt
-  pub rules_read : (table : List ℕ) × RulesCall rules table Rules.Accepted w
-  pub net_read : (state : List ℕ) × NetCall net w state Nets.Accepted v
+  pub rules_read : (table : List ℕ) × RulesCall rules table (Ok tt) w
+  pub net_read : (state : List ℕ) × NetCall net w state (Ok tt) v
 
 -- A step by the rules as they are written, from C or from any other net that is C up to names, order and sides:
 -- "Configurations that differ only on names are considered equivalent" (document 001).
@@ -39,11 +37,11 @@ fires Found.none = []
 fires (Found.straight i e) = i ∷ []
 fires (Found.turned i e) = i ∷ []
 
--- Steps that are made: each of the picks is answered Moved, and the state that one call leaves is lent to the next. With the
+-- Steps that are made: each of the picks is answered Ok, and the state that one call leaves is lent to the next. With the
 -- numbers of the rules fired, so that their length is the interactions made, and `count i` of them those by rule number i.
 pub data Picks (w : List ℕ) : (v picks fired v' : List ℕ) → Type 0 where
   none : {v : List ℕ} → Picks w v [] [] v
-  more : {v v' v'' ps is : List ℕ} {p : ℕ} → StepCall w v p Answer.Moved v' → Picks w v' ps is v''
+  more : {v v' v'' ps is : List ℕ} {p : ℕ} → StepCall w v p (Ok tt) v' → Picks w v' ps is v''
       → Picks w v (p ∷ ps) (fires (rule_at (under w) (view v) p) ++ is) v''
 
 -- The first k picks of f.
@@ -75,17 +73,17 @@ pub record RunSteps (w v : List ℕ) (budget : ℕ) (t : Stop) (n : ℕ) (v' : L
 
 -- What such a run answers.
 abbrev pub stop_answer : Stop → ℕ → RunAnswer
-stop_answer ended n = Run.Ended n
-stop_answer paused n = Run.Paused n
-stop_answer noroom n = Run.NoRoom n
+stop_answer ended n = Ok (record { stop = Code.Ended; made = n })
+stop_answer paused n = Ok (record { stop = Code.Paused; made = n })
+stop_answer noroom n = Ok (record { stop = Code.NoRoom; made = n })
 
 -- A call of step or run, whatever it is answered, and the rules that it fires: a refused call fires none.
 pub data Call (w v : List ℕ) : (fired v' : List ℕ) → Type 0 where
-  step : {v' : List ℕ} {p : ℕ} → StepCall w v p Answer.Moved v' → Call w v (fires (rule_at (under w) (view v) p)) v'
-  step_refused : {v' : List ℕ} {p : ℕ} {r : StepAnswer} → StepCall w v p r v' → ¬ (r ≡ Answer.Moved) → Call w v [] v'
+  step : {v' : List ℕ} {p : ℕ} → StepCall w v p (Ok tt) v' → Call w v (fires (rule_at (under w) (view v) p)) v'
+  step_refused : {v' : List ℕ} {p : ℕ} {r : StepAnswer} → StepCall w v p r v' → ¬ (r ≡ Ok tt) → Call w v [] v'
   run : {v' : List ℕ} {budget : ℕ} {t : Stop} {n : ℕ} → RunCall w v budget (stop_answer t n) v'
       → (s : RunSteps w v budget t n v') → Call w v s.fired v'
-  run_refused : {v' : List ℕ} {budget : ℕ} {r : RunAnswer} → RunCall w v budget r v' → (r ≡ Run.Unsound) ⊎ (r ≡ Run.TooMuch)
+  run_refused : {v' : List ℕ} {budget : ℕ} {r : RunAnswer} → RunCall w v budget r v' → (r ≡ Err Why.Unsound) ⊎ (r ≡ Err Why.LargeBudget)
       → Call w v [] v'
 
 -- Such calls, each lent the state that the one before left. (The other calls only read the state, or load another net.)
@@ -112,7 +110,7 @@ pub record Calls (w : List ℕ) (f : ℕ → ℕ) (r : ℕ → StepAnswer) (vs :
   -- "steps are taken while equations wait": an equation that waits is picked
   pub picks : (k : ℕ) → 0 < (view (vs k)).waiting.used → f k < (view (vs k)).waiting.used
   -- "no step is refused for room"
-  pub room : (k : ℕ) → ¬ (r k ≡ Answer.NoRoom)
+  pub room : (k : ℕ) → ¬ (r k ≡ Err Why.NoRoom)
 
 -- They come to where nothing waits, and have made as many interactions as M, each rule as often, and are at N (`at_end`).
 pub record ComesToEnd (w : List ℕ) (f : ℕ → ℕ) (vs : ℕ → List ℕ) (M : List Label) (N : Conf) : Type 0 where

@@ -1,8 +1,7 @@
 -- What each public call promises, word for word: one relation between what it was lent, its answer and what it leaves.
 use Rattle.answers.specs.Answer.{Answer}
-use Rattle.answer.specs.declared.EndAnswer.{EndAnswer}
 use Rattle.std.specs.Prelude.{◌≤◌, ◌≡◌, ◌++◌, ◌↔◌}
-use Rattle.review.specs.Words.{ℕ, Bool, true, List, length, drop, sets, state_size, view, Words, empty, meaning, answer, answer_text, agents_in, bytes_of, no_table, Given, BothSound, sound-state, leaves, rules_read, RulesAnswer, told, net_call, NetAnswer, end_told, given, called, evaluated, out, step_told, step_called, run_told, run_called, StepAnswer, RunAnswer}
+use Rattle.review.specs.Words.{ℕ, Bool, true, List, length, drop, sets, state_size, view, Words, empty, meaning, answer, answer_text, agents_in, bytes_of, no_table, Given, BothSound, sound-state, leaves, rules_read, told, net_call, end_told, given, called, evaluated, out, step_told, step_called, run_told, run_called, TextAnswer, StepAnswer, RunAnswer, EndAnswer}
 
 -- A lent state: an array of that many words of 16 bits. Every array that a caller can lend is one.
 pub record StateArray (v : List ℕ) : Type 0 where
@@ -10,11 +9,11 @@ pub record StateArray (v : List ℕ) : Type 0 where
   pub words : Words v
 
 -- read_rules, lent a text and a table, answers r and leaves the table u.
-pub record RulesCall (text table : List ℕ) (r : RulesAnswer) (u : List ℕ) : Type 0 where
+pub record RulesCall (text table : List ℕ) (r : TextAnswer) (u : List ℕ) : Type 0 where
   pub promised : leaves r u ≡ rules_read text table
 
 -- read_net, lent a text, a table w and a state v, answers r and leaves the state v'.
-pub record NetCall (text w v : List ℕ) (r : NetAnswer) (v' : List ℕ) : Type 0 where
+pub record NetCall (text w v : List ℕ) (r : TextAnswer) (v' : List ℕ) : Type 0 where
   pub promised : told r (view v') ≡ net_call text w (view v)
 
 -- step, lent a table w and a state v, with a pick, answers r and leaves the state v'.

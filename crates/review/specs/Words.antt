@@ -3,6 +3,8 @@ pub use Prim.Native.{Nat.ℕ, Nat.zero, Nat.suc, String.String}
 pub use mathlib.Core.{Bool.Bool, Bool.true, List.List, List.[]}
 pub use lib.{ListN.length, ListN.drop, Seq.sets}
 pub use Rattle.parts.specs.Limits.{budget_max, text_max}
+pub use Rattle.parts.specs.Faults.{fault_number}
+pub use Rattle.parts.specs.declared.faults.Fault.{Fault}
 pub use Rattle.calculus.specs.Nets.{◌≈◌}
 pub use Rattle.calculus.specs.Calculus.{Label, Step}
 pub use Rattle.calculus.specs.Terms.{Conf, count}
@@ -31,12 +33,9 @@ pub use Rattle.answers.specs.Answer.{agents, tied_agents, net_agents, answer}
 pub use Rattle.answers.specs.Collected.{Collected, Substituted}
 pub use Rattle.answers.specs.Knots.{Knotted}
 pub use Rattle.answers.specs.Text.{answer_text}
-pub use Rattle.rules.specs.declared.RulesAnswer.{RulesAnswer}
 pub use Rattle.rules.specs.Answer.{leaves, rules_read}
 pub use Rattle.nets.specs.Answer.{told, net_call}
-pub use Rattle.nets.specs.declared.NetAnswer.{NetAnswer}
-pub use Rattle.machine.specs.declared.calls.StepAnswer.{StepAnswer}
-pub use Rattle.machine.specs.declared.calls.RunAnswer.{RunAnswer}
 pub use Rattle.machine.specs.Calls.{run_told, out, step_told, step_called, run_called}
 pub use Rattle.answer.specs.Called.{called, given, end_told}
 pub use Rattle.evaluation.specs.Evaluated.{evaluated}
+pub use Rattle.review.specs.Answers.{TextAnswer, refused_on, StepAnswer, RunAnswer, EndAnswer, end_of}

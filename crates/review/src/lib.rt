@@ -4,19 +4,20 @@
 
 ghost use Rattle.review.specs.Promises.{RulesCall, NetCall, StepCall, RunCall, AnswerCall, EvaluateCall, TableTest, BothTest, EmptyState, EmptyTable};
 
-use answer::{EndAnswer, read_answer};
+use answer::{End, read_answer};
 use evaluation::evaluate;
 use evaluation::sizes::Output;
 use lent::both_sound;
-use machine::calls::{RunAnswer, StepAnswer, run, step};
-use nets::{NetAnswer, read_net};
+use machine::calls::{Ran, run, step};
+use nets::read_net;
 use parts::Limits;
-use rules::{RulesAnswer, read_rules};
+use parts::faults::{Fault, Refusal};
+use rules::read_rules;
 use state::empty;
 use table::writing::empty_table;
 use table_test::whole::table_sound;
 
-pub fn rules_call(text: &[u8], table: &mut [u8; Limits::TABLE]) -> RulesAnswer
+pub fn rules_call(text: &[u8], table: &mut [u8; Limits::TABLE]) -> Result<(), Refusal>
     ensures { RulesCall text.now table.old result table.new }
 {
     read_rules(text, table)
@@ -26,7 +27,7 @@ pub fn net_call(
     text: &[u8],
     table: &[u8; Limits::TABLE],
     state: &mut [u16; Limits::STATE],
-) -> NetAnswer
+) -> Result<(), Refusal>
     ensures { NetCall text.now table.now state.old result state.new }
 {
     read_net(text, table, state)
@@ -36,7 +37,7 @@ pub fn step_call(
     table: &[u8; Limits::TABLE],
     state: &mut [u16; Limits::STATE],
     pick: u16,
-) -> StepAnswer
+) -> Result<(), Fault>
     ensures { StepCall table.now state.old pick result state.new }
 {
     step(table, state, pick)
@@ -46,7 +47,7 @@ pub fn run_call(
     table: &[u8; Limits::TABLE],
     state: &mut [u16; Limits::STATE],
     budget: u32,
-) -> RunAnswer
+) -> Result<Ran, Fault>
     ensures { RunCall table.now state.old budget result state.new }
 {
     run(table, state, budget)
@@ -56,7 +57,7 @@ pub fn answer_call(
     table: &[u8; Limits::TABLE],
     state: &[u16; Limits::STATE],
     out: &mut [u8],
-) -> EndAnswer
+) -> Result<End, Fault>
     ensures { AnswerCall table.now state.now out.old result out.new }
 {
     read_answer(table, state, out)

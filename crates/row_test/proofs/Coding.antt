@@ -1,14 +1,9 @@
 -- What the tests of a rule's codes find.
-use Prim.Native.Nat.{ℕ, suc, ◌+◌, ◌*◌, ◌-◌, ◌/◌, ◌%◌, ◌<◌, ◌≤◌, pred}
-use mathlib.Core.Path.{◌≡◌, refl, sym, ap, ap₂, ◌∙◌}
-use mathlib.Core.Bool.{Bool, true, false, cond, ◌&&◌}
-use mathlib.Core.List.{List, [], ◌∷◌, ◌++◌, map, append_assoc, map-append}
-use native.Mathlib.Omega.{arith}
-use native.Mathlib.Numerals.{add-one}
-use lib.ListN.{length, get_or, take, drop, replicate, length-take, length-drop, length-append, length-replicate}
-use lib.Seq.{sets, sets-eq, take_at, length-take-le, get_or-take, get_or-drop, ext_get_or, length-sets}
-use lib.Dec.{ltb, eqb}
-use borrow.Author.Tests.{eq-eqb, ne_eqb, lt-ltb, le-ltb}
+use Rattle.std.specs.Prelude.{ℕ, suc, ◌+◌, ◌*◌, ◌-◌, ◌/◌, ◌%◌, ◌<◌, ◌≤◌, ◌≡◌, refl, Bool, true, false, cond, ◌&&◌, List, [], ◌∷◌, ◌++◌, map, length, get_or, take, drop, replicate, ltb, eqb}
+use Rattle.std.proofs.Common.{sym, ap, ap₂, ◌∙◌, append_assoc, arith, add-one, length-take, length-drop, length-append, take_at, length-take-le, get_or-take, get_or-drop, ext_get_or, lt-ltb, le-ltb}
+use mathlib.Core.List.{map-append}
+use Rattle.std.proofs.Math.ListN.{length-replicate}
+use Rattle.std.proofs.Math.Seq.{sets, sets-eq, length-sets}
 use Rattle.parts.specs.Limits.{arity_max, rule_equations_max, rule_cells_max, node_size, rule_size}
 use Rattle.parts.specs.Sides.{Side, name, code, side}
 use Rattle.parts.specs.Codes.{side-code, code-side}
@@ -17,23 +12,19 @@ use Rattle.texts.specs.Bytes.{all, keep}
 use Rattle.texts.specs.Books.{Agent}
 use Rattle.texts.specs.Coded.{second_from, new_from, arity_at, unpaired}
 use Rattle.texts.specs.TableTest.{args_all, all_codes, same_side, tally, standing}
-use Rattle.texts.proofs.Beneath.Tools.{keep_append}
 use Rattle.table.specs.Lists.{tab, each}
 use Rattle.table.specs.Layout.{sides_in, nodes_in, agents_in, symbol_of, equation_of, cell_of, entry_of}
-use Rattle.row_test.specs.Row.{RowFits, side_fits, code_fits, one_if, sides_max, side_bytes, arg_bytes}
+use Rattle.row_test.specs.Row.{RowFits, side_fits, code_fits, sides_max, side_bytes, arg_bytes}
 use Rattle.table.specs.Laws.Lists.{length-tab, tab_at, tab_cong, tab-snoc}
 use Rattle.table.specs.Laws.Rows.{arity-small}
 use Rattle.table.specs.Laws.Sides.{even-side, odd-side, same_codes, sides_of}
-use Rattle.table.specs.Laws.Passing.{Passed, passed_more, each-passed, each-false, all_each}
-
-pub cell-arity_way : (ags : List Agent) (x a b s n : ℕ) → b ≡ pred x → s ≡ b → a ≡ arity_at ags s → n ≡ a → n ≡ arity_at ags (pred x)
-cell-arity_way ags x a b s n eb es ea en = en ∙ (ea ∙ ap (arity_at ags) (es ∙ eb))
-
-pub same_yes : (x y : ℕ) → x ≡ y → (1 ≡ one_if (eqb x y)) × (1 ≤ 1)
-same_yes x y e = (rw (eq-eqb x y e), omega arith)
-
-pub same_no : (x y : ℕ) → (x ≡ y → ⊥) → (0 ≡ one_if (eqb x y)) × (0 ≤ 1)
-same_no x y e = (rw (ne_eqb x y e), omega arith)
+use Rattle.table.specs.Laws.Passing.{all_each}
+use Rattle.table.specs.Laws.Chains.{all_list, all_range}
+use Rattle.std.proofs.lemmas.List.Recursion.{is_count_by}
+use Rattle.table.proofs.Storing.{stored}
+use Rattle.std.specs.List.{list_all, count_by, range_with_len}
+use Rattle.std.proofs.lemmas.List.Folds.{list_all-map}
+use borrow.Rule.Slice.PartMut.{put_mid}
 
 -- The four answers of the test of a code; h is its half.
 module _ (x h l r n c : ℕ) (e : h ≡ x / 2) where
@@ -99,28 +90,6 @@ args-snoc [] c = nil c.args
     nil (x ∷ l) = ap (λ k. x ∷ k) (nil l)
 args-snoc (d ∷ cs) c = ap (λ l. d.args ++ l) (args-snoc cs c) ∙ sym (append_assoc d.args (args_all cs) c.args)
 
--- What put_sides and put_args store.
-pub sides-stored : (r p l o : List ℕ) (n at : ℕ) → n ≡ get_or r 2 0 → p ≡ take (sides_in + 2 * n - sides_in) (drop sides_in r) → o ≡ sets l at p → o ≡ sets l at (side_bytes r)
-unfolding side_bytes
-sides-stored r p l o n at e ep eo =
-    let z : sides_in + 2 * n - sides_in ≡ 2 * get_or r 2 0 = omega arith in
-    eo ∙ ap (sets l at) (ep ∙ ap (λ i. take i (drop sides_in r)) z)
-
-pub sides-room : (r p : List ℕ) (n at m : ℕ) → n ≡ get_or r 2 0 → p ≡ take (sides_in + 2 * n - sides_in) (drop sides_in r) → at + 2 * get_or r 2 0 ≤ m → at + length p ≤ m
-sides-room r p n at m e ep h = omega (arith, ap length ep, length-take (sides_in + 2 * n - sides_in) (drop sides_in r))
-
-pub args-stored : (r p l o : List ℕ) (c a at : ℕ) → p ≡ take (nodes_in + (node_size * c + 1) + a - (nodes_in + (node_size * c + 1))) (drop (nodes_in + (node_size * c + 1)) r)
-    → o ≡ sets l at p → o ≡ sets l at (arg_bytes r c a)
-unfolding arg_bytes
-args-stored r p l o c a at ep eo =
-    let z : nodes_in + (node_size * c + 1) + a - (nodes_in + (node_size * c + 1)) ≡ a = omega arith in
-    eo ∙ ap (sets l at) (ep ∙ ap (λ i. take i (drop (nodes_in + (node_size * c + 1)) r)) z)
-
-pub args-room : (r p : List ℕ) (c a at m : ℕ) → p ≡ take (nodes_in + (node_size * c + 1) + a - (nodes_in + (node_size * c + 1))) (drop (nodes_in + (node_size * c + 1)) r)
-    → at + a ≤ m → at + length p ≤ m
-args-room r p c a at m ep h =
-    omega (arith, ap length ep, length-take (nodes_in + (node_size * c + 1) + a - (nodes_in + (node_size * c + 1))) (drop (nodes_in + (node_size * c + 1)) r))
-
 pub length-sides : (r : List ℕ) → length r ≡ rule_size → get_or r 2 0 ≤ rule_equations_max → length (side_bytes r) ≡ 2 * get_or r 2 0
 unfolding side_bytes
 length-sides r h k = length-take (2 * get_or r 2 0) (drop sides_in r) ∙ omega (arith, length-drop sides_in r)
@@ -128,6 +97,23 @@ length-sides r h k = length-take (2 * get_or r 2 0) (drop sides_in r) ∙ omega 
 pub length-args : (r : List ℕ) (c a : ℕ) → length r ≡ rule_size → c < rule_cells_max → a ≤ arity_max → length (arg_bytes r c a) ≡ a
 unfolding arg_bytes
 length-args r c a h k q = length-take a (drop (nodes_in + (node_size * c + 1)) r) ∙ omega (arith, length-drop (nodes_in + (node_size * c + 1)) r)
+
+-- What put_sides and put_args store: v is what the part of the list holds then.
+pub sides-stored : (r l v : List ℕ) (n at : ℕ) → n ≡ get_or r 2 0 → v ≡ take (sides_in + 2 * n - sides_in) (drop sides_in r)
+    → length r ≡ rule_size → get_or r 2 0 ≤ rule_equations_max → at + 2 * get_or r 2 0 ≤ length l → put_mid at (at + 2 * n - at) l v ≡ sets l at (side_bytes r)
+unfolding side_bytes
+sides-stored r l v n at e ev h k q =
+    let z : sides_in + 2 * n - sides_in ≡ 2 * get_or r 2 0 = omega arith in
+    let m = length-sides r h k in
+    stored l (side_bytes r) v at (at + 2 * n - at) (ev ∙ ap (λ i. take i (drop sides_in r)) z) (omega (arith, m)) (omega (arith, m))
+
+pub args-stored : (r l v : List ℕ) (c a at : ℕ) → v ≡ take (nodes_in + (node_size * c + 1) + a - (nodes_in + (node_size * c + 1))) (drop (nodes_in + (node_size * c + 1)) r)
+    → length r ≡ rule_size → c < rule_cells_max → a ≤ arity_max → at + a ≤ length l → put_mid at (at + a - at) l v ≡ sets l at (arg_bytes r c a)
+unfolding arg_bytes
+args-stored r l v c a at ev h k q b =
+    let z : nodes_in + (node_size * c + 1) + a - (nodes_in + (node_size * c + 1)) ≡ a = omega arith in
+    let m = length-args r c a h k q in
+    stored l (arg_bytes r c a) v at (at + a - at) (ev ∙ ap (λ i. take i (drop (nodes_in + (node_size * c + 1)) r)) z) (omega (arith, m)) (omega (arith, m))
 
 -- Gathered so far: the sides of the equations, and the arguments of the first c cells.
 pub record Gathering (w r l : List ℕ) (u c : ℕ) : Type 0 where
@@ -165,8 +151,8 @@ arity-fits w r c a f e = omega (arith, e, arity-small (agents_in w) (symbol_of r
 
 -- m is the number of cells, as it was read
 module _ (w r l : List ℕ) (u c m a : ℕ) (f : RowFits w r) (g : Gathering w r l u c) (em : m ≡ get_or r 3 0) (h : c < m) (ea : a ≡ arity_at (agents_in w) (symbol_of r c)) where
-  pub gathering_room : (length r ≡ rule_size) × (c < rule_cells_max) × (a ≤ arity_max) × (u + a ≤ sides_max)
-  gathering_room = (f.long, omega (arith, f.little), arity-fits w r c a f ea, omega (arith, f.little, g.few, arity-fits w r c a f ea))
+  pub gathering_room : (c < rule_cells_max) × (a ≤ arity_max) × (u + a ≤ sides_max)
+  gathering_room = (omega (arith, f.little), arity-fits w r c a f ea, omega (arith, f.little, g.few, arity-fits w r c a f ea))
 
   pub gathering_more : (o : List ℕ) → o ≡ sets l u (arg_bytes r c a) → Gathering w r o (u + a) (c + 1)
   gathering_more o eo =
@@ -191,64 +177,33 @@ gathering_end w r l u c m f g em h =
     let z : c ≡ get_or r 3 0 = omega (arith, g.within) in
     (g.made ∙ ap (λ i. unpaired (tab (get_or r 2 0) (equation_of r)) ++ args_all (tab i (cell_of (agents_in w) r))) z, omega (arith, g.few, g.within, f.little))
 
--- A test of all gathered sides is a test at each number.
-pub take-tab : (l : List ℕ) (u : ℕ) → u ≤ length l → take u l ≡ tab u (λ i. get_or l i 0)
-take-tab l u h = part-tab l 0 u (omega arith) ∙ tab_cong u (λ k. get_or l (0 + k) 0) (λ i. get_or l i 0) (λ k q. ap (λ i. get_or l i 0) (let z : 0 + k ≡ k = omega arith in z))
+-- A test of all codes.
+pub all_sides : (f : Side → Bool) (l : List ℕ) → list_all (λ x. f (side x)) l ≡ all f (map side l)
+all_sides f l = sym (all_list f (map side l) ∙ list_all-map f side l)
 
-pub all_sides : (f : Side → Bool) (l : List ℕ) (u : ℕ) → u ≤ length l → all f (map side (take u l)) ≡ each u (λ i. f (side (get_or l i 0)))
-all_sides f l u h = ap (all f) (ap (map side) (take-tab l u h) ∙ map-tab side u (λ i. get_or l i 0)) ∙ all_each f u (λ i. side (get_or l i 0))
-
-abbrev pub Fit : ℕ → ℕ → ℕ → ℕ → List ℕ → ℕ → Bool
-Fit l r n c s i = code_fits l r n c (get_or s i 0)
-
-module _ (l r n c : ℕ) (s : List ℕ) (u i : ℕ) (t : Bool) (p : Passed (Fit l r n c s) u i) (h : i < u) (et : t ≡ code_fits l r n c (get_or s i 0)) where
-  pub fit_more : t ≡ true → Passed (Fit l r n c s) u (i + 1)
-  fit_more e = passed_more (Fit l r n c s) u i p h (sym et ∙ e)
-
-  pub fit_not : u ≤ sides_max → length s ≡ sides_max → t ≡ false → false ≡ all (side_fits l r n c) (map side (take u s))
-  fit_not q k e = sym (all_sides (side_fits l r n c) s u (omega (arith, q, k)) ∙ each-false (Fit l r n c s) u i h (sym et ∙ e))
-
-pub fit_end : (l r n c : ℕ) (s : List ℕ) (u i : ℕ) → Passed (Fit l r n c s) u i → u ≤ i → u ≤ sides_max → length s ≡ sides_max → true ≡ all (side_fits l r n c) (map side (take u s))
-fit_end l r n c s u i p h q k = sym (all_sides (side_fits l r n c) s u (omega (arith, q, k)) ∙ each-passed (Fit l r n c s) u i p h)
-
--- How often a name stands: one code after the other.
-tally-snoc : {A : Type 0} (f : A → Bool) (xs : List A) (x : A) → tally f (xs ++ (x ∷ [])) ≡ tally f xs + one_if (f x)
+-- How often a name stands.
+one_more : (x c : ℕ) (l : List ℕ) → tally (same_side (name x)) (map side (c ∷ l))
+    ≡ cond (eqb (2 * x) c) (1 + tally (same_side (name x)) (map side l)) (tally (same_side (name x)) (map side l))
 unfolding tally keep
-tally-snoc f xs x = ap length (keep_append f xs (x ∷ [])) ∙ (length-append (keep f xs) (keep f (x ∷ [])) ∙ ap (λ i. length (keep f xs) + i) (one (f x)))
+one_more x c l =
+    ap (λ b. length (cond b (side c ∷ keep (same_side (name x)) (map side l)) (keep (same_side (name x)) (map side l))))
+    (same_codes (name x) (side c) ∙ ap (eqb (2 * x)) (code-side c))
+    ∙ by (eqb (2 * x) c)
   where
-    one : (t : Bool) → length (cond t (x ∷ []) []) ≡ one_if t
-    one true = refl
-    one false = refl
+    by : (b : Bool) → length (cond b (side c ∷ keep (same_side (name x)) (map side l)) (keep (same_side (name x)) (map side l)))
+        ≡ cond b (1 + length (keep (same_side (name x)) (map side l))) (length (keep (same_side (name x)) (map side l)))
+    by true = let z : suc (length (keep (same_side (name x)) (map side l))) ≡ 1 + length (keep (same_side (name x)) (map side l)) = omega arith in z
+    by false = refl
 
-pub record Counted (l : List ℕ) (x found i : ℕ) : Type 0 where
-  pub few : found ≤ i
-  pub so_far : found ≡ tally (same_side (name x)) (tab i (λ k. side (get_or l k 0)))
+none_of : (x : ℕ) → tally (same_side (name x)) [] ≡ 0
+unfolding tally keep
+none_of x = refl
 
-pub counted_none : (l : List ℕ) (x : ℕ) → Counted l x 0 0
-unfolding tab tally keep
-counted_none l x = record { few = omega arith; so_far = refl }
-
-one_small : (t : Bool) → one_if t ≤ 1
-one_small true = omega arith
-one_small false = omega arith
-
-pub counted_more : (l : List ℕ) (x found i n : ℕ) → Counted l x found i → n ≡ one_if (eqb (2 * x) (get_or l i 0)) → Counted l x (found + n) (i + 1)
-counted_more l x found i n c e = record {
-  few = omega (arith, c.few, e, one_small (eqb (2 * x) (get_or l i 0)));
-  so_far =
-      ap₂ (λ a b. a + b) c.so_far (e ∙ ap one_if (sym (same_codes (name x) (side (get_or l i 0)) ∙ ap (eqb (2 * x)) (code-side (get_or l i 0)))))
-      ∙ (sym (tally-snoc (same_side (name x)) (tab i (λ k. side (get_or l k 0))) (side (get_or l i 0)))
-      ∙ ap (tally (same_side (name x))) (sym (tab-snoc i (λ k. side (get_or l k 0))) ∙ ap (λ j. tab j (λ k. side (get_or l k 0))) (sym (add-one i))));
-}
-
-pub counted_end : (l : List ℕ) (x found i u : ℕ) → Counted l x found i → i ≤ u → u ≤ i → u ≤ sides_max → length l ≡ sides_max → found ≡ tally (same_side (name x)) (map side (take u l))
-counted_end l x found i u c e₁ e₂ q k =
-    let h : u ≤ length l = omega (arith, q, k) in
-    let e : i ≡ u = omega (arith, e₁, e₂) in
-    c.so_far ∙ ap (tally (same_side (name x))) (ap (λ j. tab j (λ k. side (get_or l k 0))) e ∙ sym (ap (map side) (take-tab l u h) ∙ map-tab side u (λ i. get_or l i 0)))
+pub tally-count : (x : ℕ) (l : List ℕ) → count_by (λ c. eqb (2 * x) c) l ≡ tally (same_side (name x)) (map side l)
+tally-count x l = sym (is_count_by (λ k. tally (same_side (name x)) (map side k)) (λ c. eqb (2 * x) c) (none_of x) (one_more x) l)
 
 -- Each of n names stands so often.
-abbrev pub Often : ℕ → List Side → ℕ → ℕ → Bool
+abbrev Often : ℕ → List Side → ℕ → ℕ → Bool
 Often m cs k i = eqb (tally (same_side (name (k + i))) cs) m
 
 standing-each : (m : ℕ) (cs : List Side) (k n : ℕ) → standing m cs k n ≡ each n (Often m cs k)
@@ -256,12 +211,6 @@ unfolding standing each
 standing-each m cs k ℕ.zero = refl
 standing-each m cs k (ℕ.suc n) = ap (λ t. t && eqb (tally (same_side (name (k + n))) cs) m) (standing-each m cs k n)
 
-module _ (m : ℕ) (cs : List Side) (k n i t : ℕ) (p : Passed (Often m cs k) n i) (h : i < n) (et : t ≡ tally (same_side (name (k + i))) cs) where
-  pub often_more : t ≡ m → Passed (Often m cs k) n (i + 1)
-  often_more e = passed_more (Often m cs k) n i p h (eq-eqb _ _ (sym et ∙ e))
-
-  pub often_not : (t ≡ m → ⊥) → false ≡ standing m cs k n
-  often_not e = sym (standing-each m cs k n ∙ each-false (Often m cs k) n i h (ne_eqb _ _ (λ z. e (et ∙ z))))
-
-pub often_end : (m : ℕ) (cs : List Side) (k n i : ℕ) → Passed (Often m cs k) n i → n ≤ i → true ≡ standing m cs k n
-often_end m cs k n i p h = sym (standing-each m cs k n ∙ each-passed (Often m cs k) n i p h)
+pub standing-range : (m : ℕ) (cs : List Side) (k n : ℕ) → list_all (Often m cs k) (range_with_len 0 n) ≡ standing m cs k n
+standing-range m cs k n =
+    all_range (Often m cs k) n n (λ i. i) (list_all (Often m cs k) (range_with_len 0 n)) refl refl ∙ (all_each (Often m cs k) n (λ i. i) ∙ sym (standing-each m cs k n))

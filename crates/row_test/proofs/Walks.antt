@@ -1,15 +1,11 @@
 -- What the walk over a stack of codes finds.
-use Prim.Native.Nat.{ℕ, suc, ◌+◌, ◌*◌, ◌-◌, ◌/◌, ◌%◌, ◌<◌, ◌≤◌}
-use mathlib.Core.Path.{◌≡◌, refl, sym, ap, ap₂, ◌∙◌}
-use mathlib.Core.Bool.{Bool, true, false, cond, ◌&&◌}
-use mathlib.Core.List.{List, [], ◌∷◌, ◌++◌, map, map-append, append_assoc}
-use native.Mathlib.Omega.{arith}
-use native.Mathlib.Numerals.{add-one}
-use lib.ListN.{length, get_or, take, drop, replicate, length-replicate, drop_of_length-le}
-use lib.Seq.{sets, sets-eq, drop_at, length-take-le, length-sets, drop-cons}
-use lib.Dec.{eqb, ltb, leb}
-use borrow.Author.Tests.{eq-eqb, ne_eqb, eqb-true, eqb-false, lt-ltb, le-ltb, ltb-true, ltb-false, leb-true, leb-false}
-use Rattle.parts.specs.Limits.{arity_max, rule_equations_max, rule_cells_max, rule_size}
+use Rattle.std.specs.Prelude.{ℕ, suc, ◌+◌, ◌*◌, ◌-◌, ◌/◌, ◌%◌, ◌<◌, ◌≤◌, ◌≡◌, refl, Bool, true, false, cond, ◌&&◌, List, [], ◌∷◌, ◌++◌, map, length, get_or, take, drop, replicate, eqb, ltb, leb}
+use Rattle.std.proofs.Common.{sym, ap, ap₂, ◌∙◌, append_assoc, arith, add-one, drop_of_length-le, drop_at, length-take-le, drop-cons, eq-eqb, ne_eqb, eqb-true, lt-ltb, le-ltb, ltb-true, ltb-false, leb-true, leb-false}
+use mathlib.Core.List.{map-append}
+use Rattle.std.proofs.Math.ListN.{length-replicate}
+use Rattle.std.proofs.Math.Seq.{sets, sets-eq, length-sets}
+use borrow.Author.Tests.{eqb-false}
+use Rattle.parts.specs.Limits.{arity_max, rule_equations_max, rule_cells_max}
 use Rattle.parts.specs.Sides.{Side, name, cell, side}
 use Rattle.model.specs.Table.{Cell}
 use Rattle.texts.specs.Coded.{new_from}
@@ -200,8 +196,8 @@ module _ (w r : List ℕ) (top : ℕ) (s : List ℕ) (m n : ℕ) (f : RowFits w 
     fits_under : arity_in w r m ≤ top + 1
     fits_under = omega (arith, small-arity, g.room, f.little, due.1)
 
-    pub walking_room : RowFits w r × (m < get_or r 3 0) × (top < sides_max) × (arity_in w r m ≤ top + 1)
-    walking_room = (f, due.1, q, fits_under)
+    pub walking_room : (m < get_or r 3 0) × (top < sides_max) × (arity_in w r m ≤ top + 1)
+    walking_room = (due.1, q, fits_under)
 
     pub walking_less : (k : ℕ) → k ≡ top + 1 - arity_in w r m
         → 8 * (rule_cells_max - (m + 1)) + (sides_max - k) < 8 * (rule_cells_max - m) + (sides_max - top)
@@ -227,39 +223,10 @@ walking_end w r top s m n t g q et = et ∙ sym (ended ∙ go (eqb m (get_or r 3
         (drop-cons (tab (get_or r 3 0) (cell_of (agents_in w) r)) m (cell_of (agents_in w) r 0) (omega (arith, length-tab (get_or r 3 0) (cell_of (agents_in w) r), g.some, eqb-false m (get_or r 3 0) b)))
         ∙ (early_end (get_or r 4 0) m n (get_or (tab (get_or r 3 0) (cell_of (agents_in w) r)) m (cell_of (agents_in w) r 0)) (drop (suc m) (tab (get_or r 3 0) (cell_of (agents_in w) r))) ∙ rw b)
 
--- The answers of the small tests; h is the half of a code, as it was read, and k what stands in the row.
-pub due_by : (h x m k r : ℕ) → h ≡ x / 2 → k ≡ r → h ≡ m → ltb m k ≡ (eqb (x / 2) m && ltb m r)
-due_by h x m k r eh ek e = rw (eq-eqb (x / 2) m (sym eh ∙ e)) (ap (ltb m) ek)
-
-pub due_not : (h x m r : ℕ) → h ≡ x / 2 → (h ≡ m → ⊥) → false ≡ (eqb (x / 2) m && ltb m r)
-due_not h x m r eh e = rw (ne_eqb (x / 2) m (λ z. e (eh ∙ z)))
-
-pub name_by : (h x k : ℕ) → h ≡ x / 2 → leb h k ≡ leb (x / 2) k
-name_by h x k eh = ap (λ i. leb i k) eh
-
-pub after_new : (h x n : ℕ) → h ≡ x / 2 → h < 256 → h ≡ new_from + n → (n + 1 ≡ cond (eqb (x / 2) (new_from + n)) (suc n) n) × (n + 1 ≤ 256)
-after_new h x n eh small e = (rw (eq-eqb (x / 2) (new_from + n) (sym eh ∙ e)) (add-one n), omega arith)
-
-pub after_old : (h x n : ℕ) → h ≡ x / 2 → n ≤ 256 → (h ≡ new_from + n → ⊥) → (n ≡ cond (eqb (x / 2) (new_from + n)) (suc n) n) × (n ≤ 256)
-after_old h x n eh small e = (rw (ne_eqb (x / 2) (new_from + n) (λ z. e (eh ∙ z))), small)
-
-pub met_by : (m n k l a b : ℕ) → k ≡ a → l ≡ b → m ≡ k → eqb n l ≡ (eqb m a && eqb n b)
-met_by m n k l a b ek el e = rw (eq-eqb m a (e ∙ ek)) (ap (eqb n) el)
-
-pub met_not : (m n k a b : ℕ) → k ≡ a → (m ≡ k → ⊥) → false ≡ (eqb m a && eqb n b)
-met_not m n k a b ek e = rw (ne_eqb m a (λ z. e (z ∙ sym ek)))
-
-pub laid_way : (r s o : List ℕ) (n : ℕ) → n ≡ get_or r 2 0 → o ≡ sets s (sides_max - 2 * n) (side_bytes r)
-    → (sides_max - 2 * n ≡ sides_max - 2 * get_or r 2 0) × (o ≡ sets s (sides_max - 2 * n) (side_bytes r))
-laid_way r s o n e eo = (ap (λ i. sides_max - 2 * i) e, eo)
-
-pub laid-room : (r : List ℕ) (n : ℕ) → n ≡ get_or r 2 0 → length r ≡ rule_size → get_or r 2 0 ≤ rule_equations_max
-    → (length r ≡ rule_size) × (get_or r 2 0 ≤ rule_equations_max) × (sides_max - 2 * n + 2 * get_or r 2 0 ≤ sides_max)
-laid-room r n e l h = (l, h, omega (arith, e, h))
-
+-- The arguments of a cell, laid over its code; a is how many there are, as it was read.
 pub entered-room : (w r : List ℕ) (c a top : ℕ) → RowFits w r → c < get_or r 3 0 → top < sides_max → arity_in w r c ≤ top + 1 → a ≡ arity_in w r c
-    → (length r ≡ rule_size) × (c < rule_cells_max) × (a ≤ arity_max) × (top + 1 - a + a ≤ sides_max)
-entered-room w r c a top f h q u ea = (f.long, omega (arith, f.little, h), arity-fits w r c a f ea, omega (arith, ea, u, q))
+    → (c < rule_cells_max) × (a ≤ arity_max) × (top + 1 - a + a ≤ sides_max)
+entered-room w r c a top f h q u ea = (omega (arith, f.little, h), arity-fits w r c a f ea, omega (arith, ea, u, q))
 
 pub entered_way : (w r s o : List ℕ) (c a top : ℕ) → a ≡ arity_in w r c → o ≡ sets s (top + 1 - a) (arg_bytes r c a)
     → (top + 1 - a ≡ top + 1 - arity_in w r c) × (o ≡ sets s (top + 1 - a) (arg_bytes r c (arity_in w r c)))

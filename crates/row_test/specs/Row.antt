@@ -1,13 +1,13 @@
 -- What the test of a table asks of a rule's row, number by number.
-use Rattle.std.specs.Prelude.{ℕ, ◌+◌, ◌*◌, ◌≤◌, ◌≡◌, Bool, true, false, cond, ◌&&◌, List, map, length, get_or, take, drop, ltb, leb}
+use Rattle.std.specs.Prelude.{ℕ, ◌+◌, ◌*◌, ◌≤◌, ◌≡◌, Bool, true, cond, not, ◌&&◌, ◌||◌, List, map, length, get_or, take, drop, eqb, ltb, leb}
 use Rattle.parts.specs.Limits.{symbols_max, rule_equations_max, rule_cells_max, rule_names_max, arity_max, node_size, rule_size}
 use Rattle.parts.specs.Sides.{Side, name, cell, side}
 use Rattle.model.specs.Table.{Entry}
 use Rattle.texts.specs.Bytes.{all}
 use Rattle.texts.specs.Books.{Agent}
 use Rattle.texts.specs.Coded.{second_from, new_from, arity_at, unpaired}
-use Rattle.texts.specs.TableTest.{agent_ok, code_ok, all_codes, standing, walk, met, numbered}
-use Rattle.table.specs.Layout.{agents_in, sides_in, nodes_in, symbol_of}
+use Rattle.texts.specs.TableTest.{agent_ok, code_ok, all_codes, standing, walk, met, numbered, is_two_sided}
+use Rattle.table.specs.Layout.{agents_in, sides_in, nodes_in, symbol_of, entry_of}
 use Rattle.row_test.specs.declared.codes.Codes.{Codes}
 
 -- A row that is a rule's, within the sizes, in a table with good agents.
@@ -30,10 +30,6 @@ side_fits l r n c (cell d) = ltb d c
 
 abbrev pub code_fits : ℕ → ℕ → ℕ → ℕ → ℕ → Bool
 code_fits l r n c x = side_fits l r n c (side x)
-
-abbrev pub one_if : Bool → ℕ
-one_if true = 1
-one_if false = 0
 
 -- Cells and new names are numbered as they are met.
 unfoldable pub walked : Entry → Bool
@@ -66,3 +62,7 @@ unfoldable pub sides_fit : List Agent → Entry → Bool
 sides_fit ags e =
     (all (code_ok ags e) (all_codes e) && (standing 1 (all_codes e) 0 (arity_at ags e.left) && standing 1 (all_codes e) second_from (arity_at ags e.right)))
     && standing 2 (all_codes e) new_from e.fresh
+
+-- What is asked of a row that passed by its sizes and its cells.
+abbrev pub fitting_test : List Agent → List ℕ → Bool
+fitting_test ags r = (sides_fit ags (entry_of ags r) && walked (entry_of ags r)) && (not (eqb (get_or r 0 0) (get_or r 1 0)) || is_two_sided (entry_of ags r))

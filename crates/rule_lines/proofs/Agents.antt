@@ -6,7 +6,7 @@ use mathlib.Core.List.{List, [], ◌∷◌, ◌++◌}
 use native.Mathlib.Omega.{arith}
 use lib.ListN.{length, get_or, length-append}
 use lib.Dec.{ltb, leb, leb-suc-suc}
-use borrow.Author.Tests.{lt-ltb, le-ltb, ltb-false, leb-false}
+use borrow.Author.Tests.{le-ltb, ltb-false, leb-false}
 use Rattle.parts.specs.Limits.{identifier_max, symbols_max, arity_max, rules_max}
 use Rattle.texts.specs.Bytes.{Word}
 use Rattle.texts.specs.Books.{Agent, Book, is_agent, add, declared}
@@ -27,21 +27,6 @@ use Rattle.terms.specs.Agents.{agents_of}
 use Rattle.rule_lines.specs.Agents.{big_agent}
 use Rattle.rule_lines.specs.Laws.{agents-counted, no_rules, judged_same}
 use Rattle.rule_lines.specs.Judged.{passed, failed, AgentJudged, ShapeJudged}
-
--- number 5 by its three tests
-module _ (w : Word) (n c : ℕ) (t : Bool) (long : t ≡ is_too_long w) where
-  pub big-long : t ≡ true → true ≡ big_agent w n c
-  unfolding big_agent
-  big-long h = rw (← long, h)
-
-  module _ (short : t ≡ false) where
-    pub big-wide : arity_max < n → true ≡ big_agent w n c
-    unfolding big_agent
-    big-wide h = rw (← long, short, lt-ltb arity_max n h)
-
-    pub big-full : n ≤ arity_max → (m k : ℕ) → m ≡ c → k ≡ m → leb symbols_max k ≡ big_agent w n c
-    unfolding big_agent
-    big-full h m k e f = rw (← long, short, le-ltb arity_max n h, f, e)
 
 -- an agent that passes none of the sizes
 pub record Small (w : Word) (n c : ℕ) : Type 0 where

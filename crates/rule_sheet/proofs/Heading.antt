@@ -5,6 +5,10 @@ use mathlib.Core.Bool.{Bool, true}
 use mathlib.Core.List.{List, [], ◌∷◌, ◌++◌}
 use native.Mathlib.Omega.{arith}
 use lib.ListN.{length, drop, replicate, length-replicate}
+use Rattle.std.specs.Prelude as Prelude
+use Rattle.std.specs.Prelude.{is_some}
+use Rattle.std.specs.Option.{unwrap_or}
+use Rattle.texts.proofs.Beneath.Tools.{never}
 use Rattle.parts.specs.Limits.{arity_max, rule_equations_max, net_names_max}
 use Rattle.parts.specs.declared.SymbolNo.{SymbolNo}
 use Rattle.texts.specs.Bytes.{Word, fields}
@@ -19,12 +23,12 @@ use Rattle.table.specs.Rule.{stands}
 use Rattle.terms.specs.Agents.{agents_of}
 use Rattle.terms.specs.Layout.{sheet_size}
 use Rattle.terms.specs.Sheet.{Sheet, view}
-use Rattle.terms.specs.Words.{found}
+use Rattle.terms.specs.Words.{found, known}
 use Rattle.terms.specs.Meaning.{Holds}
 use Rattle.terms.proofs.Main.{holds-nothing}
 use Rattle.terms.proofs.Beneath.Numbers.{found-agent}
 use Rattle.terms.proofs.Beneath.Heads.{found-small}
-use Rattle.terms.specs.declared.words.Found.{Found}
+use Rattle.terms.specs.declared.words.Agent.{Agent as Known}
 use Rattle.line_terms.specs.Fields.{ran, fields_by}
 use Rattle.coding.specs.Made.{Makeable, Made}
 use Rattle.rule_tests.specs.Laws.Five.{fields-count}
@@ -33,44 +37,37 @@ use Rattle.rule_sheet.specs.Wellformed.{Wellformed}
 use Rattle.rule_sheet.specs.Heads.{Blank, HeadIs, AgentIn, LeftsIn}
 use Rattle.rule_sheet.specs.Laws.Heads.{first_words, second-words, first_takes, second-takes}
 use Rattle.rule_sheet.specs.Laws.Reading.{start, Done, read_done, rule_makeable, rule-stands}
-use Rattle.rule_sheet.specs.declared.whole.Head.{Head}
 use Rattle.rule_sheet.specs.declared.whole.Heads.{Heads}
 
--- What was found.
-symbol_in : ℕ → Found → ℕ
-symbol_in d Found.Nothing = d
-symbol_in d (Found.Agent k a) = k.0
+-- What was found, or a blank where nothing was.
+abbrev blank_agent : Known
+blank_agent = known 0 0
 
-arity_in : ℕ → Found → ℕ
-arity_in d Found.Nothing = d
-arity_in d (Found.Agent k a) = a
-
-is_some : Found → ℕ
-is_some Found.Nothing = 0
-is_some (Found.Agent k a) = 1
-
-module _ (bytes : List ℕ) (w : Word) (f : Found) (e : f ≡ found 0 (agents_of bytes) w) where
-  pub head_none : f ≡ Found.Nothing → HeadIs (agents_of bytes) w (record { symbol = record { 0 = 0 }; arity = 0 })
-  unfolding is_some
-  head_none h = record { below = omega arith; symbol = λ d. wrong d; arity = λ d. wrong d }
+module _ (bytes : List ℕ) (w : Word) (f : Prelude.Option Known) (e : f ≡ found 0 (agents_of bytes) w) where
+  pub head_is : (h : Known) → h ≡ unwrap_or f blank_agent → HeadIs (agents_of bytes) w h
+  head_is h q = go f refl q
     where
-      wrong : {x y : ℕ} → declared (agents_of bytes) w ≡ true → x ≡ y
-      wrong d = absurd (omega (arith, ap is_some (sym h ∙ (e ∙ found-agent (agents_of bytes) w 0 d))))
-
-  pub head_some : (k : SymbolNo) (a n : ℕ) → f ≡ Found.Agent k a → n ≡ a → HeadIs (agents_of bytes) w (record { symbol = k; arity = n })
-  unfolding symbol_in arity_in
-  head_some k a n h en = record {
-    below = found-small bytes w e h;
-    symbol = λ d. omega (arith, ap (symbol_in 0) (sym h ∙ (e ∙ found-agent (agents_of bytes) w 0 d)));
-    arity = λ d. en ∙ ap (arity_in 0) (sym h ∙ (e ∙ found-agent (agents_of bytes) w 0 d));
-  }
+      go : (o : Prelude.Option Known) → f ≡ o → h ≡ unwrap_or o blank_agent → HeadIs (agents_of bytes) w h
+      go Prelude.None z k =
+          let wrong : declared (agents_of bytes) w ≡ true → ⊥ =
+          λ d. never (ap is_some (sym z ∙ (e ∙ found-agent (agents_of bytes) w 0 d))) in
+          record { below = omega (arith, ap (λ (a : Known). a.symbol.0) k); symbol = λ d. absurd (wrong d); arity = λ d. absurd (wrong d) }
+      go (Prelude.Some a) z k = record {
+        below = omega (arith, found-small bytes w e z, ap (λ (b : Known). b.symbol.0) k);
+        symbol = λ d.
+            omega
+            (arith, ap (λ (o : Prelude.Option Known). (unwrap_or o blank_agent).symbol.0) (sym z ∙ (e ∙ found-agent (agents_of bytes) w 0 d)), ap (λ (b : Known). b.symbol.0) k);
+        arity = λ d.
+            omega
+            (arith, ap (λ (o : Prelude.Option Known). (unwrap_or o blank_agent).arity) (sym z ∙ (e ∙ found-agent (agents_of bytes) w 0 d)), ap (λ (b : Known). b.arity) k);
+      }
 
 -- One left agent.
-pub agent_in : (l : List ℕ) (ags : List Agent) (at : ℕ) (v : Word) (h : Head) (p : ℕ) (s s₁ : Sheet)
+pub agent_in : (l : List ℕ) (ags : List Agent) (at : ℕ) (v : Word) (h : Known) (p : ℕ) (s s₁ : Sheet)
     → ((w : Word) (ws : List Word) → at ≤ length l → words_in (drop at l) ≡ w ∷ ws → v ≡ w) → HeadIs ags v h
     → ((w : Word) (ws : List Word) → at ≤ length l → words_in (drop at l) ≡ w ∷ ws → (p ≤ length l) × (words_in (drop p l) ≡ ws))
-    → Entered l p h.arity s s₁ → AgentIn l ags at s s₁ h.symbol.0
-agent_in l ags at v h p s s₁ ev hv ep en = record {
+    → (m : ℕ) → m ≡ h.arity → Entered l p m s s₁ → AgentIn l ags at s s₁ h.symbol.0
+agent_in l ags at v h p s s₁ ev hv ep m em en = record {
   below = hv.below;
   count = en.count;
   meant = λ w vs more ws a t d n q hs.
@@ -78,7 +75,7 @@ agent_in l ags at v h p s s₁ ev hv ep en = record {
       let dv : declared ags v ≡ true = ap (declared ags) z ∙ d in
       let k = ep w (vs ++ more) a q in (
         hv.symbol dv ∙ ap (symbol_of ags) z,
-        en.holds [] ws vs more hs k.0 t k.1 (n ∙ sym (hv.arity dv ∙ ap (takes ags) z)),
+        en.holds [] ws vs more hs k.0 t k.1 (n ∙ sym (em ∙ (hv.arity dv ∙ ap (takes ags) z))),
       );
 }
 

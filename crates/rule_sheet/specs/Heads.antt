@@ -10,7 +10,7 @@ use Rattle.terms.specs.Sheet.{Sheet}
 use Rattle.terms.specs.Meaning.{Holds}
 use Rattle.rule_sheet.specs.Lefts.{places}
 use Rattle.rule_sheet.specs.Wellformed.{Wellformed}
-use Rattle.rule_sheet.specs.declared.whole.Head.{Head}
+use Rattle.terms.specs.declared.words.Agent.{Agent as Known}
 use Rattle.rule_sheet.specs.declared.whole.Heads.{Heads}
 
 -- A sheet with no cells and no names.
@@ -19,7 +19,7 @@ pub record Blank (w : List ℕ) : Type 0 where
   pub cells : get_or w cells_at 0 ≡ 0
   pub names : get_or w names_at 0 ≡ 0
 
-pub record HeadIs (ags : List Agent) (w : Word) (h : Head) : Type 0 where
+pub record HeadIs (ags : List Agent) (w : Word) (h : Known) : Type 0 where
   pub below : h.symbol.0 < symbols_max
   pub symbol : declared ags w ≡ true → h.symbol.0 ≡ symbol_of ags w
   pub arity : declared ags w ≡ true → h.arity ≡ takes ags w

@@ -8,6 +8,7 @@ use parts::{Limits, NameNo};
 use scan::words::{word_end, word_start};
 use terms::sheet::{Sheet, enter_name, names};
 
+// A cast alone asks for a proof that the number fits.
 // A place or a length of a text that has at most as many bytes as a text may have.
 fn low(n: usize) -> u16
     ensures { result ≡ n % text_max }
@@ -38,9 +39,7 @@ pub fn enter_left(text: &[u8], at: usize, n: usize, sheet: &mut [u16; Sheet::SIZ
     ensures { Entered text.now at n (view sheet.old) (view sheet.new) }
 {
     let mut from = at;
-    let mut i: usize = 0;
-    while i < Limits::ARITY {
+    for i in 0..Limits::ARITY {
         from = enter_next(text, from, i < n, sheet);
-        i += 1;
     }
 }

@@ -16,15 +16,9 @@ use parts::{Limits, SymbolNo};
 use rule_tests::words::{after_word, word_at};
 use scan::cutting::{field_count, field_start};
 use table::Rule;
+use terms::Source;
 use terms::sheet::Sheet;
-use terms::words::{Found, find_agent};
-
-// An agent's symbol and arity.
-#[derive(Clone, Copy)]
-pub struct Head {
-    pub symbol: SymbolNo,
-    pub arity: usize,
-}
+use terms::words::{Agent, find_agent};
 
 // The symbols of the two left agents.
 #[derive(Clone, Copy)]
@@ -48,54 +42,51 @@ fn no_codes() -> [u16; 2 * Limits::RULE_EQUATIONS]
 }
 
 // The agent that a word names; of a name this says nothing.
-fn head_of(word: &[u8], agents: &[u8]) -> Head
+fn head_of(word: &[u8], agents: &[u8]) -> Agent
     ensures { HeadIs (agents_of agents.now) word.now result }
 {
-    match find_agent(agents, word) {
-        Found::Nothing => Head {
-            symbol: SymbolNo(0),
-            arity: 0,
-        },
-        Found::Agent { symbol, arity } => Head {
-            symbol: symbol,
-            arity: arity as usize,
-        },
-    }
+    find_agent(agents, word).unwrap_or(Agent {
+        symbol: SymbolNo(0),
+        arity: 0,
+    })
 }
 
 // The left agent that stands from a place on: its arguments are entered, and its symbol is the answer.
-fn enter_agent(rest: &[u8], at: usize, agents: &[u8], sheet: &mut [u16; Sheet::SIZE]) -> SymbolNo
+fn enter_agent(source: Source<'_>, at: usize, sheet: &mut [u16; Sheet::SIZE]) -> SymbolNo
     requires { (view sheet.old).names + arity_max ≤ net_names_max }
-    ensures { AgentIn rest.now (agents_of agents.now) at (view sheet.old) (view sheet.new) result.0 }
+    ensures { AgentIn source.entry.text.now (agents_of source.entry.agents.now) at (view sheet.old) (view sheet.new) result.0 }
 {
-    let head = head_of(word_at(rest, at), agents);
-    enter_left(rest, after_word(rest, at), head.arity, sheet);
+    let head = head_of(word_at(source.text, at), source.agents);
+    enter_left(
+        source.text,
+        after_word(source.text, at),
+        usize::from(head.arity),
+        sheet,
+    );
     head.symbol
 }
 
 // Both left agents.
-fn enter_lefts(rest: &[u8], agents: &[u8], sheet: &mut [u16; Sheet::SIZE]) -> Heads
+fn enter_lefts(source: Source<'_>, sheet: &mut [u16; Sheet::SIZE]) -> Heads
     requires { (view sheet.old).names + 2 * arity_max ≤ net_names_max }
-    ensures { LeftsIn rest.now (agents_of agents.now) (view sheet.old) (view sheet.new) result }
+    ensures { LeftsIn source.entry.text.now (agents_of source.entry.agents.now) (view sheet.old) (view sheet.new) result }
 {
-    let left = enter_agent(rest, 0, agents, sheet);
-    let right = enter_agent(rest, field_start(rest, 1), agents, sheet);
-    Heads {
-        left: left,
-        right: right,
-    }
+    let left = enter_agent(source, 0, sheet);
+    let right = enter_agent(source, field_start(source.text, 1), sheet);
+    Heads { left, right }
 }
 
 // The rule: its left arguments are numbered first, then its right side is read and the new names get the numbers behind them.
-pub fn coded(rest: &[u8], agents: &[u8]) -> Rule
-    requires { (r : Books.Rule) × Wellformed rest.now (agents_of agents.now) r }
-    ensures { (r : Books.Rule) → Wellformed rest.now (agents_of agents.now) r → stands (agents_of agents.now) result ≡ template (agents_of agents.now) r }
+pub fn coded(source: Source<'_>) -> Rule
+    requires { (r : Books.Rule) × Wellformed source.text.now (agents_of source.agents.now) r }
+    ensures { (r : Books.Rule) → Wellformed source.entry.text.now (agents_of source.entry.agents.now) r
+        → stands (agents_of source.entry.agents.now) result ≡ template (agents_of source.entry.agents.now) r }
 {
     let mut sheet = blank();
-    let heads = enter_lefts(rest, agents, &mut sheet);
-    let n = field_count(rest) - 2;
-    let from = field_start(rest, 2);
+    let heads = enter_lefts(source, &mut sheet);
+    let n = field_count(source.text) - 2;
+    let from = field_start(source.text, 2);
     let mut codes = no_codes();
-    read_fields(rest, from, rest.len(), n, agents, &mut sheet, &mut codes);
+    read_fields(source, from, source.text.len(), n, &mut sheet, &mut codes);
     rule_of(heads.left, heads.right, &codes, n, &sheet)
 }

@@ -1,14 +1,15 @@
 -- What the loops over the words of a part keep, and their steps.
 use Prim.Native.Nat.{ℕ, ◌+◌, ◌-◌, ◌≤◌, ◌<◌}
 use mathlib.Core.Path.{◌≡◌, refl, sym, ap, ap₂, subst, ◌∙◌}
-use mathlib.Core.Bool.{Bool, true, false, cond, not, ◌||◌, ◌&&◌}
+use mathlib.Core.Bool.{Bool, true, false, cond, not, ◌&&◌}
 use mathlib.Core.List.{List, [], ◌∷◌}
 use native.Mathlib.Omega.{arith}
 use lib.Dec.{ltb}
 use lib.ListN.{length, take, drop, length-drop, drop_of_length-le}
 use lib.Seq.{take_all}
 use borrow.Author.Tests.{ltb-true, ltb-false}
-use Rattle.texts.specs.Bytes.{Word, any, keep, among, different}
+use Rattle.std.specs.Int.{from_bool}
+use Rattle.texts.specs.Bytes.{Word, keep, among, different}
 use Rattle.scan.specs.Words.{word_start, word_end, words_in}
 use Rattle.scan.specs.Laws.Wording.{NextWord, next_word, no_word}
 use Rattle.rule_tests.specs.Words.{last_ones}
@@ -56,35 +57,6 @@ module _ (l : List ℕ) (at s : ℕ) (es : s ≡ word_start l at) (e : ℕ) (ee 
   after_is w ws h q =
       (subst (λ n. n ≤ length l) (sym end_is) (next l at w ws h q).within, ap (λ n. words_in (drop n l)) end_is ∙ (next_is l at w ws h q).1)
 
--- no word before the place passes the test
-pub record Missed (f : Word → Bool) (l : List ℕ) (at : ℕ) : Type 0 where
-  pub within : at ≤ length l
-  pub rest : any f (words_in l) ≡ any f (words_in (drop at l))
-
-pub missed_none : (f : Word → Bool) (l : List ℕ) → Missed f l 0
-missed_none f l = record { within = omega arith; rest = refl }
-
-module _ (f : Word → Bool) (l : List ℕ) (at : ℕ) (c : Missed f l at) where
-  pub missed_end : length l ≤ at → false ≡ any f (words_in l)
-  unfolding any
-  missed_end h = sym (c.rest ∙ rw (drop_of_length-le l h, no_words))
-
-  module _ (s : ℕ) (es : s ≡ word_start l at) where
-    pub missed_last : length l ≤ s → false ≡ any f (words_in l)
-    unfolding any
-    missed_last h = sym (c.rest ∙ rw (no_word l at c.within (rw es at h)))
-
-    module _ (more : s < length l) (e : ℕ) (ee : e ≡ word_end l s) (v : Word) (ev : v ≡ take (e - s) (drop s l)) (t : Bool) (is : t ≡ f v) where
-      step : any f (words_in l) ≡ (t || any f (words_in (drop e l)))
-      unfolding any
-      step = c.rest ∙ rw ((the_next l at s e es more ee).words, ← ev, is)
-
-      pub missed_hit : t ≡ true → true ≡ any f (words_in l)
-      missed_hit h = sym (step ∙ rw h)
-
-      pub missed_more : t ≡ false → Missed f l e
-      missed_more h = record { within = word-within l at s e es more ee; rest = step ∙ rw h }
-
 -- n words before the place stand last there
 pub record Counted (f : Word → Bool) (l : List ℕ) (at n : ℕ) : Type 0 where
   pub within : at ≤ length l
@@ -110,17 +82,31 @@ module _ (f : Word → Bool) (l : List ℕ) (at n : ℕ) (c : Counted f l at n) 
       let x : n ≡ last_ones f (words_in l) = omega (arith, c.rest) in x ∙ lasts_different f (words_in l)
 
   module _ (s e : ℕ) (es : s ≡ word_start l at) (more : s < length l) (ee : e ≡ word_end l s) (w : Word) (ew : w ≡ take (e - s) (drop s l))
-      (k : Word) (ek : k ≡ take (length l) (drop e l)) (t : Bool) (is : t ≡ (f w && not (among w (words_in k)))) (d : ℕ) (ed : (d ≡ cond t 1 0) × (d ≤ 1)) where
+      (k : Word) (ek : k ≡ take (length l) (drop e l)) (t : Bool) (is : t ≡ (f w && not (among w (words_in k)))) (d : ℕ) (ed : d ≡ from_bool t) where
     later : k ≡ drop e l
     later = ek ∙ take_all (length l) (drop e l) (omega (arith, length-drop e l))
+
+    one_more : d ≤ 1
+    one_more = rw ed (go t)
+      where
+        go : (u : Bool) → from_bool u ≤ 1
+        go true = omega arith
+        go false = omega arith
+
+    as_one : d ≡ cond t 1 0
+    as_one = ed ∙ go t
+      where
+        go : (u : Bool) → from_bool u ≡ cond u 1 0
+        go true = refl
+        go false = refl
 
     pub counted_more : Counted f l e (n + d)
     unfolding last_ones
     counted_more =
         let z : last_ones f (words_in (drop at l)) ≡ d + last_ones f (words_in (drop e l)) =
-        ap (last_ones f) (the_next l at s e es more ee).words ∙ rw (← ew, ed.0, is, later) in
+        ap (last_ones f) (the_next l at s e es more ee).words ∙ rw (← ew, as_one, is, later) in
         record {
           within = word-within l at s e es more ee;
-          few = omega (arith, c.few, word_on l at s e es more ee, ed.1);
+          few = omega (arith, c.few, word_on l at s e es more ee, one_more);
           rest = omega (arith, c.rest, z);
         }

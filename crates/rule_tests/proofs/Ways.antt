@@ -1,15 +1,15 @@
 -- Each way out of the tests of a rule's line.
 use Prim.Native.Nat.{ℕ, ◌+◌, ◌*◌, ◌≤◌, ◌<◌}
 use mathlib.Core.Path.{◌≡◌, sym, ap, subst, ◌∙◌}
-use mathlib.Core.Bool.{Bool, true, false, not, ◌&&◌}
+use mathlib.Core.Bool.{Bool, true, false, not}
 use mathlib.Core.List.{List, [], ◌∷◌, ◌++◌}
 use mathlib.Core.Option.{some}
 use native.Mathlib.Omega.{arith}
 use lib.ListN.{length, get_or, take, drop}
 use lib.Dec.{eqb, ltb, leb}
-use borrow.Author.Tests.{eq-eqb, ne_eqb, lt-ltb, le-ltb}
+use borrow.Author.Tests.{lt-ltb, le-ltb}
 use Rattle.parts.specs.Limits.{symbols_max, rules_max, rule_equations_max, rule_cells_max, rule_names_max}
-use Rattle.texts.specs.Bytes.{Word, any, keep, among, times, different, fields}
+use Rattle.texts.specs.Bytes.{Word, any, keep, different, fields}
 use Rattle.texts.specs.Terms.{Term, nodes}
 use Rattle.texts.specs.Books.{Agent, Book, Rule, is_rule, declared, cells_of, head_of, lefts, rights, new_names_of}
 use Rattle.texts.specs.RuleText.{big_node, wrong_args, over_names, terms_of, fault5, fault7, fault8}
@@ -28,40 +28,6 @@ use Rattle.rule_tests.specs.Laws.Eight.{eight-words, eight_first, eight-second}
 pub left_is : (l v : List ℕ) (n : ℕ) → n ≡ field_start l 2 → v ≡ take n (drop 0 l) → v ≡ take (field_start l 2) l
 left_is l v n e q = q ∙ ap (λ m. take m l) e
 
--- A new name that stands no more.
-module _ (ags : List Agent) (L K : List Word) (w : Word) (d : Bool) (ed : d ≡ declared ags w) where
-  pub last_declared : d ≡ true → false ≡ (new_word ags L w && not (among w K))
-  unfolding new_word
-  last_declared h = rw (← ed, h)
-
-  module _ (h : d ≡ false) (t : Bool) (et : t ≡ among w L) where
-    pub last_left : t ≡ true → false ≡ (new_word ags L w && not (among w K))
-    unfolding new_word
-    last_left k = rw (← ed, h, ← et, k)
-
-    pub last_later : t ≡ false → (u : Bool) → u ≡ among w K → not u ≡ (new_word ags L w && not (among w K))
-    unfolding new_word
-    last_later k u eu = rw (← ed, h, ← et, k, eu)
-
--- A name that stands another number of times than it may.
-module _ (ags : List Agent) (L R : List Word) (w : Word) (d : Bool) (ed : d ≡ declared ags w) where
-  pub word-declared : d ≡ true → false ≡ wrong_word ags L R w
-  unfolding wrong_word
-  word-declared h = rw (← ed, h)
-
-  module _ (h : d ≡ false) (m n : ℕ) (em : m ≡ times w L) (en : n ≡ times w R) where
-    pub word_right : m ≡ 0 → not (eqb n 2) ≡ wrong_word ags L R w
-    unfolding wrong_word
-    word_right k = rw (← ed, h, ← em, ← en, eq-eqb m 0 k)
-
-    pub word-both : (m ≡ 0 → ⊥) → m ≡ 1 → not (eqb n 1) ≡ wrong_word ags L R w
-    unfolding wrong_word
-    word-both k j = rw (← ed, h, ← em, ← en, ne_eqb m 0 k, eq-eqb m 1 j)
-
-    pub word_more : (m ≡ 0 → ⊥) → (m ≡ 1 → ⊥) → true ≡ wrong_word ags L R w
-    unfolding wrong_word
-    word_more k j = rw (← ed, h, ← em, ne_eqb m 0 k, ne_eqb m 1 j)
-
 -- The sizes of the right side.
 module _ (l : List ℕ) (m : ℕ) (em : m ≡ length (fields l)) where
   pub right_fields : (a : List ℕ) → 2 + 2 * rule_equations_max < m → (b : Book) (r : Rule) → agents_of a ≡ b.agents → Fields l r → true ≡ right_big b.agents r
@@ -76,10 +42,11 @@ module _ (l : List ℕ) (m : ℕ) (em : m ≡ length (fields l)) where
     few-are : (r : Rule) → Fields l r → ltb rule_equations_max (length r.right) ≡ false
     few-are r f = le-ltb rule_equations_max (length r.right) (omega (arith, few, em, fields-count l r f))
 
-    pub right_cells : rule_cells_max < c → (b : Book) (r : Rule) → agents_of a ≡ b.agents → Fields l r → true ≡ right_big b.agents r
+    pub right_cells : rule_cells_max < c → (b : Book) (r : Rule) → agents_of a ≡ b.agents → Fields l r → ltb rule_cells_max c ≡ right_big b.agents r
     unfolding right_big
     right_cells h b r ea f =
-        sym (rw (few-are r f, lt-ltb rule_cells_max (length (cells_of b.agents (rights r))) (omega (arith, h, cells_are b r ea f))))
+        lt-ltb rule_cells_max c h
+        ∙ sym (rw (few-are r f, lt-ltb rule_cells_max (length (cells_of b.agents (rights r))) (omega (arith, h, cells_are b r ea f))))
 
     pub right_names : c ≤ rule_cells_max → (left : List ℕ) → left ≡ take (field_start l 2) l
         → (n : ℕ) → n ≡ length (different (keep (new_word (agents_of a) (words_in left)) (words_in right)))
@@ -98,12 +65,12 @@ module _ (l a : List ℕ) (k : ℕ) (o : Bool) (eo : (ts : List Term) → terms_
   big-nodes h b r ea few ek f = five-nodes b r (sym (nodes-are r f) ∙ h)
 
   module _ (h : o ≡ false) (t : Bool) (et : (b : Book) (r : Rule) → agents_of a ≡ b.agents → Fields l r → t ≡ right_big b.agents r) where
-    pub big_right : t ≡ true → (b : Book) (r : Rule) → agents_of a ≡ b.agents → length b.agents ≤ symbols_max → k ≡ length b.rules → Fields l r → true ≡ fault5 b (is_rule r)
-    big_right j b r ea few ek f = five_right b r (sym (nodes-are r f) ∙ h) (sym (et b r ea f) ∙ j)
+    pub big_right : t ≡ true → (b : Book) (r : Rule) → agents_of a ≡ b.agents → length b.agents ≤ symbols_max → k ≡ length b.rules → Fields l r → t ≡ fault5 b (is_rule r)
+    big_right j b r ea few ek f = j ∙ five_right b r (sym (nodes-are r f) ∙ h) (sym (et b r ea f) ∙ j)
 
-    pub big_book : t ≡ false → (b : Book) (r : Rule) → agents_of a ≡ b.agents → length b.agents ≤ symbols_max → k ≡ length b.rules → Fields l r
-        → leb rules_max k ≡ fault5 b (is_rule r)
-    big_book j b r ea few ek f = ap (leb rules_max) ek ∙ five-book b r (sym (nodes-are r f) ∙ h) (sym (et b r ea f) ∙ j) few
+    pub big_book : t ≡ false → (m : ℕ) → m ≡ k → (b : Book) (r : Rule) → agents_of a ≡ b.agents → length b.agents ≤ symbols_max → k ≡ length b.rules → Fields l r
+        → leb rules_max m ≡ fault5 b (is_rule r)
+    big_book j m em b r ea few ek f = ap (leb rules_max) (em ∙ ek) ∙ five-book b r (sym (nodes-are r f) ∙ h) (sym (et b r ea f) ∙ j) few
 
 -- An agent over names.
 module _ (f : List ℕ) (ags : List Agent) (v : List ℕ) (ev : (w : Word) (ws : List Word) → 0 ≤ length f → words_in (drop 0 f) ≡ w ∷ ws → v ≡ w)
@@ -116,8 +83,8 @@ module _ (f : List ℕ) (ags : List Agent) (v : List ℕ) (ev : (w : Word) (ws :
   over_one h c ec t e q =
       sym (over_names_lem ags t q ∙ rw (← head_is t e, ← ed, h, ec, field-words f t e))
 
-  pub over_none : d ≡ false → (t : Term) → term_of f ≡ some t → any (wrong_args ags) (nodes (t ∷ [])) ≡ false → false ≡ over_names ags t
-  over_none h t e q = sym (over_names_lem ags t q ∙ rw (← head_is t e, ← ed, h))
+  pub over_none : d ≡ false → (t : Term) → term_of f ≡ some t → any (wrong_args ags) (nodes (t ∷ [])) ≡ false → d ≡ over_names ags t
+  over_none h t e q = h ∙ sym (over_names_lem ags t q ∙ rw (← head_is t e, ← ed, h))
 
 -- Number 8.
 module _ (l a g : List ℕ) (eg : g ≡ get_or (fields l) 0 []) (t : Bool)
@@ -139,8 +106,8 @@ module _ (l a g : List ℕ) (eg : g ≡ get_or (fields l) 0 []) (t : Bool)
         (eu r.second (rw (ek, second-field l r f) f.two)
         (subst (λ ags. any (wrong_args ags) (nodes (r.second ∷ [])) ≡ false) (sym ea) (sides_right b.agents r (seven-apart b r h).0).1))
 
-    pub ill_second : u ≡ false → (b : Book) (r : Rule) → agents_of a ≡ b.agents → Fields l r → fault7 b (is_rule r) ≡ false → true ≡ fault8 b (is_rule r)
-    ill_second j b r ea f h = eight-second b r (sym (first_over b r ea f h) ∙ e) (sym (second-over b r ea f h) ∙ j)
+    pub ill_second : u ≡ false → (b : Book) (r : Rule) → agents_of a ≡ b.agents → Fields l r → fault7 b (is_rule r) ≡ false → not u ≡ fault8 b (is_rule r)
+    ill_second j b r ea f h = ap not j ∙ eight-second b r (sym (first_over b r ea f h) ∙ e) (sym (second-over b r ea f h) ∙ j)
 
     pub ill_words : u ≡ true → (left right : List ℕ) → left ≡ take (field_start l 2) l → right ≡ drop (field_start l 2) l
         → (x : Bool) → x ≡ any (wrong_word (agents_of a) (words_in left) (words_in right)) (words_in l)

@@ -1,5 +1,5 @@
 // Number 5: an identifier, a level, the equations, cells and new names of the right side, or the rules so far pass their size.
-ghost use Rattle.std.specs.Prelude.{◌≡◌, cond, not, ◌&&◌, ◌-◌, ◌≤◌, length, take};
+ghost use Rattle.std.specs.Prelude.{◌≡◌, not, ◌&&◌, ◌-◌, ◌≤◌, length, take};
 ghost use Rattle.parts.specs.Limits.{symbols_max};
 ghost use Rattle.texts.specs.Bytes.{keep, among, different};
 ghost use Rattle.texts.specs.Books as Books;
@@ -24,26 +24,12 @@ pub fn left_part(rest: &[u8]) -> &[u8]
     part(rest, 0, field_start(rest, 2))
 }
 
-fn one_if(yes: bool) -> usize
-    ensures { (result ≡ cond yes 1 0) × (result ≤ 1) }
-{
-    if yes {
-        return 1;
-    }
-    0
-}
-
 // Whether a word is a new name that stands no more in what comes later.
+#[tactic(auto, unfolding(crate::specs::Words::new_word))]
 fn last_new(word: &[u8], left: &[u8], later: &[u8], agents: &[u8]) -> bool
     ensures { result ≡ (new_word (agents_of agents.now) (words_in left.now) word.now && not (among word.now (words_in later.now))) }
 {
-    if declared(word, agents) {
-        return false;
-    }
-    if stands_in(left, word) {
-        return false;
-    }
-    !stands_in(later, word)
+    !declared(word, agents) && !stands_in(left, word) && !stands_in(later, word)
 }
 
 // How many different names stand on the right and nowhere on the left: each is counted where it stands last.
@@ -52,6 +38,7 @@ fn new_names(left: &[u8], right: &[u8], agents: &[u8]) -> usize
 {
     let mut n: usize = 0;
     let mut at: usize = 0;
+    // A step is a whole word, which is held against the part after it: pieces of a split do not give that part.
     while at < right.len() {
         let from = word_start(right, at);
         if right.len() <= from {
@@ -59,7 +46,7 @@ fn new_names(left: &[u8], right: &[u8], agents: &[u8]) -> usize
         }
         let to = word_end(right, from);
         let later = part(right, to, right.len());
-        n += one_if(last_new(part(right, from, to - from), left, later, agents));
+        n += usize::from(last_new(part(right, from, to - from), left, later, agents));
         at = to;
     }
     n
@@ -73,10 +60,8 @@ fn right_big(rest: &[u8], agents: &[u8]) -> bool
         return true;
     }
     let right = from_field(rest, 2);
-    if Limits::RULE_CELLS < cells_in(right, agents) {
-        return true;
-    }
-    Limits::RULE_NAMES < new_names(left_part(rest), right, agents)
+    Limits::RULE_CELLS < cells_in(right, agents)
+        || Limits::RULE_NAMES < new_names(left_part(rest), right, agents)
 }
 
 // Number 5, `rules` being how many rules there are before the line.
@@ -87,8 +72,5 @@ pub fn too_big(rest: &[u8], agents: &[u8], rules: u16) -> bool
     if oversized(rest, 0) {
         return true;
     }
-    if right_big(rest, agents) {
-        return true;
-    }
-    Limits::RULES <= (rules as usize)
+    right_big(rest, agents) || Limits::RULES <= usize::from(rules)
 }

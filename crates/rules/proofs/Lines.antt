@@ -31,8 +31,10 @@ use Rattle.rules.specs.Lines.{Stands, rule_of, RuleStands, LineJudged}
 use Rattle.ruling.specs.Judged.{Meant}
 use Rattle.ruling.specs.Judged as Ruling
 use Rattle.rule_lines.specs.declared.kinds.Kind.{Kind}
-use Rattle.rule_lines.specs.declared.kinds.Kind.TheVariants.{Agent, Nothing}
+use Rattle.rule_lines.specs.declared.kinds.Kind.TheVariants.{Agent}
 use Rattle.rule_lines.specs.declared.kinds.Kind.TheVariants as Kinds
+use Rattle.std.specs.Prelude as Prelude
+use Rattle.std.specs.Prelude.{Some, None}
 
 -- number 4 of a rule: what its fields mean, where every one of them is a term
 record MeansRule (f g : Word) (hs : List Word) : Type 0 where
@@ -140,7 +142,7 @@ rules_none : (b : Book) (v : List ℕ) (c : ℕ) → v ≡ table_bytes b → c �
 unfolding ruleless
 rules_none b v c e h = ap (λ n. eqb n 0) (sym (h ∙ rules-counted b v e))
 
-shape-told : (b : Book) (v : List ℕ) (c : ℕ) → v ≡ table_bytes b → c ≡ rules_in v → (fs : List Word) (d : Kind)
+shape-told : (b : Book) (v : List ℕ) (c : ℕ) → v ≡ table_bytes b → c ≡ rules_in v → (fs : List Word) (d : Prelude.Option Kind)
     → shape_by d fs ≡ shaped_of (eqb c 0) fs → shape_of b fs ≡ shape_by d fs
 shape-told b v c e h fs d told = shape-bare b fs ∙ (ap (λ z. shaped_of z fs) (rules_none b v c e h) ∙ sym told)
 
@@ -158,9 +160,9 @@ module _ (v l : List ℕ) (a : ℕ) (bad : a ≡ bad_at l) where
         let z : fault2 (ended_line l) ≡ false = bad-fault l ∙ rw (← bad, le-ltb a (length l) h) in
         ap (λ t. refuse 2 t (need 3 (shape_of b (fields l)) (λ s. need 4 (record_of s) (judged b)))) z
 
-    module _ (c : ℕ) (counted : c ≡ rules_in v) (d : Kind)
+    module _ (c : ℕ) (counted : c ≡ rules_in v) (d : Prelude.Option Kind)
         (told : shape_by d (fields l) ≡ shaped_of (eqb c 0) (fields l)) where
-      pub line_none : d ≡ Nothing → LineJudged v v (ended_line l) 3
+      pub line_none : d ≡ None → LineJudged v v (ended_line l) 3
       unfolding need shape_by
       line_none z = record {
         so =
@@ -178,12 +180,12 @@ module _ (v l : List ℕ) (a : ℕ) (bad : a ≡ bad_at l) where
             (j.so b g e q);
       }
 
-      pub line-agent : (n : ℕ) → d ≡ Agent n → (u : List ℕ) (m : ℕ)
+      pub line-agent : (n : ℕ) → d ≡ Some (Agent n) → (u : List ℕ) (m : ℕ)
           → ShapeJudged v u (fields l) (agent_shape (get_or (fields l) 1 []) n) m → LineJudged v u (ended_line l) m
       unfolding shape_by
       line-agent n z u m j = shaped u m _ (rw z) j
 
-      module _ (z : d ≡ Kinds.Rule) where
+      module _ (z : d ≡ Some Kinds.Rule) where
         pub rule-stands : Stands l v → RuleStands l v
         unfolding shape_by
         rule-stands s = record {

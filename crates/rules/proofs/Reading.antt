@@ -1,6 +1,6 @@
 -- The loop over the lines: what it has shown after some of them, and one law for each way on and out.
 use Prim.Native.Nat.{ℕ, suc, ◌+◌, ◌-◌, ◌<◌, ◌≤◌}
-use mathlib.Core.Path.{◌≡◌, refl, ap, ◌∙◌}
+use mathlib.Core.Path.{◌≡◌, refl, sym, ap, ◌∙◌}
 use mathlib.Core.Bool.{false}
 use mathlib.Core.List.{List, [], ◌∷◌}
 use native.Mathlib.Numerals.{add-one}
@@ -9,22 +9,23 @@ use lib.ListN.{length, take, drop, length-take}
 use Rattle.parts.specs.Limits.{text_max}
 use Rattle.texts.specs.Bytes.{lines, fault2}
 use Rattle.texts.specs.Books.{Book, no_book}
-use Rattle.texts.specs.Answers.{OfText, fault, refuse, read_lines}
+use Rattle.texts.specs.Answers.{OfText, refused, fault, refuse, read_lines}
 use Rattle.texts.specs.Coded.{table_of}
 use Rattle.texts.specs.RuleText.{rule_line}
 use Rattle.texts.specs.Good.{GoodBook}
 use Rattle.texts.specs.Bytes.{ended_line}
 use Rattle.texts.proofs.Beneath.Reading.{read-fine, read-fault}
 use Rattle.scan.specs.Cutting.{next_line}
-use Rattle.scan.proofs.Beneath.Cutting.{ended_line_lem, unended_line, no_line}
-use Rattle.scan.specs.declared.cutting.NextLine.{NextLine}
-use Rattle.scan.specs.declared.cutting.NextLine.TheVariants.{Ended, Unended, Nothing}
+use Rattle.scan.proofs.Beneath.Cutting.{ended_line_lem, unended_line, unended_fault as unended_number, no_line}
 use Rattle.table.specs.Layout.{bytes_of, table_bytes}
 use Rattle.table.specs.Put.{no_table}
-use Rattle.rules.specs.Told.{Told, yes, no}
+use Rattle.rules.specs.Told.{Told, refuses, yes, no}
 use Rattle.rule_lines.specs.Judged.{Judged, passed, failed}
 use Rattle.rules.specs.Lines.{Stands, LineJudged}
-use Rattle.rules.specs.declared.RulesAnswer.TheVariants.{Accepted, Refused}
+use Rattle.std.specs.Prelude.{Option, Some, None, Result, Ok, Err}
+use Rattle.parts.specs.Faults.{fault_number, number_told}
+use Rattle.parts.specs.declared.faults.Fault.{Fault}
+use Rattle.coding.specs.Laws.Numbers.{fault_some}
 use Rattle.rules.proofs.Goods.{good-next, good_none}
 
 -- number 2 on a line that has not ended
@@ -58,20 +59,21 @@ reading_none text from table h e = record {
 }
 
 module _ (text : List ℕ) (from : ℕ) (table : List ℕ) (at k : ℕ) (s : Reading text from table at k) where
-  module _ (r : NextLine) (is : r ≡ next_line text at) where
-    pub reading_end : r ≡ Nothing → Told (answer text from) Accepted table
+  module _ (r : Result (Option ℕ) Fault) (is : r ≡ next_line text at) where
+    pub reading_end : r ≡ Ok None → Told (answer text from) (Ok tt) table
     unfolding read_lines
     reading_end e = yes s.book (s.rest ∙ rw (no_line text at is e)) refl s.bytes
 
-    pub reading_unended : r ≡ Unended → Told (answer text from) (Refused 2 k) table
-    reading_unended e =
-        no 2 k
+    pub reading_unended : (f : Fault) → r ≡ Err f → Told (answer text from) (refuses f k) table
+    reading_unended f e =
+        no f k
         (s.rest
         ∙ (ap (read_lines rule_line k s.book) (unended_line text at is e)
-        ∙ read-fault rule_line k 2 s.book _ [] (unended_fault s.book (drop at text))))
+        ∙ (read-fault rule_line k 2 s.book _ [] (unended_fault s.book (drop at text))
+        ∙ ap (λ (i : ℕ). refused i k) (sym (ap fault_number (unended_number text at is e))))))
         refl
 
-    module _ (e : ℕ) (ended : r ≡ Ended e) where
+    module _ (e : ℕ) (ended : r ≡ Ok (Some e)) where
       pub end_begins : at ≤ e
       end_begins = (ended_line_lem text at is ended).begins
 
@@ -99,26 +101,28 @@ module _ (text : List ℕ) (from : ℕ) (table : List ℕ) (at k : ℕ) (s : Rea
       next-lines : lines (drop at text) ≡ ended_line (take (e - at) (drop at text)) ∷ lines (drop (suc e) text)
       next-lines = let l = ended_line_lem text at is ended in l.rest ∙ rw l.bytes
 
-      module _ (l : List ℕ) (cut : l ≡ take (e - at) (drop at text)) (u : List ℕ) (n : ℕ)
-          (j : LineJudged table u (ended_line l) n) where
+      module _ (l : List ℕ) (cut : l ≡ take (e - at) (drop at text)) (u : List ℕ) (m : Result (Unit {0}) Fault)
+          (j : LineJudged table u (ended_line l) (number_told m)) where
         line-lines : lines (drop at text) ≡ ended_line l ∷ lines (drop (suc e) text)
         line-lines = rw cut next-lines
 
-        pub reading_bad : (n ≡ 0 → ⊥) → Told (answer text from) (Refused n k) u
-        reading_bad h = go (j.so s.book s.good s.bytes)
+        pub reading_bad : (f : Fault) → m ≡ Err f → Told (answer text from) (refuses f k) u
+        reading_bad f h = go (j.so s.book s.good s.bytes)
           where
-            go : Judged table u (rule_line s.book (ended_line l)) n → Told (answer text from) (Refused n k) u
-            go (passed z b f t) = absurd (h z)
-            go (failed z f t) =
-                no n k
-                (s.rest ∙ (ap (read_lines rule_line k s.book) line-lines ∙ read-fault rule_line k n s.book _ _ f))
+            go : Judged table u (rule_line s.book (ended_line l)) (number_told m) → Told (answer text from) (refuses f k) u
+            go (passed z b g t) = absurd (fault_some f (sym (ap number_told h) ∙ z))
+            go (failed z g t) =
+                no f k
+                (s.rest
+                ∙ (ap (read_lines rule_line k s.book) line-lines
+                ∙ (read-fault rule_line k (number_told m) s.book _ _ g ∙ ap (λ (i : ℕ). refused i k) (ap number_told h))))
                 refl
 
-        pub reading_more : n ≡ 0 → Reading text from u (e + 1) (k + 1)
-        reading_more h = go (j.so s.book s.good s.bytes)
+        pub reading_more : (x : Unit {0}) → m ≡ Ok x → Reading text from u (e + 1) (k + 1)
+        reading_more x h = go (j.so s.book s.good s.bytes)
           where
-            go : Judged table u (rule_line s.book (ended_line l)) n → Reading text from u (e + 1) (k + 1)
-            go (failed z f t) = absurd (z h)
+            go : Judged table u (rule_line s.book (ended_line l)) (number_told m) → Reading text from u (e + 1) (k + 1)
+            go (failed z f t) = absurd (z (ap number_told h))
             go (passed z b f t) =
                 let p = ended_line_lem text at is ended in
                 record {

@@ -1,12 +1,12 @@
 -- What the reader of rule texts answers and what it leaves of the lent table: the definitions that its promise cites.
-use Rattle.std.specs.Prelude.{ℕ, List}
+use Rattle.std.specs.Prelude.{ℕ, List, Result, Ok, Err}
 use Rattle.std.proofs.Math.Option.{Option, none, some}
 use Rattle.texts.specs.Books.{Book}
 use Rattle.texts.specs.Answers.{OfText, accepted, refused}
 use Rattle.texts.specs.RuleText.{read_rules}
 use Rattle.table.specs.Layout.{table_bytes}
-use Rattle.rules.specs.declared.RulesAnswer.{RulesAnswer}
-use Rattle.rules.specs.declared.RulesAnswer.TheVariants.{Accepted, Refused}
+use Rattle.parts.specs.Faults.{fault_number}
+use Rattle.parts.specs.declared.faults.Refusal.{Refusal as Told}
 
 -- "Text refusals return the number and line (from 1; 0 for number 1)."
 pub record Refusal : Type 0 where
@@ -14,16 +14,16 @@ pub record Refusal : Type 0 where
   pub line : ℕ
 
 -- Document 01's number and line of an answer; none where the text is accepted.
-unfoldable pub refusal : RulesAnswer → Option Refusal
-refusal Accepted = none
-refusal (Refused n k) = some (record { number = n; line = k })
+unfoldable pub refusal : Result (Unit {0}) Told → Option Refusal
+refusal (Ok a) = none
+refusal (Err r) = some (record { number = fault_number r.fault; line = r.line })
 
 -- What a call leaves: the number and line that it answers, if any, and every byte of the lent table.
 pub record Leaves : Type 0 where
   pub said : Option Refusal
   pub table : List ℕ
 
-unfoldable pub leaves : RulesAnswer → List ℕ → Leaves
+unfoldable pub leaves : Result (Unit {0}) Told → List ℕ → Leaves
 leaves r w = record { said = refusal r; table = w }
 
 -- Of a text that means a book the lent table becomes the table of that book, whatever it was. "All refusals leave lent

@@ -7,7 +7,11 @@ use mathlib.Core.Option.{Option, none, some}
 use native.Mathlib.Omega.{arith}
 use lib.ListN.{length, take, drop, length-drop, drop_of_length-le}
 use lib.Seq.{take_all}
+use Rattle.std.specs.Prelude.{Result, Err}
+use Rattle.parts.specs.Faults.{number_told}
+use Rattle.parts.specs.declared.faults.Fault.{Fault}
 use Rattle.parts.specs.Limits.{text_max, symbols_max}
+use Rattle.coding.specs.Laws.Numbers.{fault_some}
 use Rattle.texts.specs.Bytes.{Word, any, fields}
 use Rattle.texts.specs.Terms.{Term, nodes}
 use Rattle.texts.specs.Books.{Book, Rule, is_rule, add, head_of, lefts, rights}
@@ -276,6 +280,13 @@ module _ (line w rest : List ℕ) (er : rest ≡ drop (field_start line 1) line)
       go : (i : ℕ) → (i ≡ 0 → ⊥) → judged b (is_rule r) ≡ passed i (refuse 9 (fault9 b (is_rule r)) (refuse 10 (fault10 b (is_rule r)) (fine (add b (is_rule r))))) → Judged b r i w w
       go ℕ.zero q e = absurd (q refl)
       go (ℕ.suc i) q e = record { answer = e; table = refl }
+
+  pub judged_err : (t u : Result (Unit {0}) Fault) (f : Fault) → n ≡ number_told t → t ≡ Err f → u ≡ Err f
+      → (b : Book) (r : Rule) → Meant b r line w → Judged b r (number_told u) w w
+  judged_err t u f en et eu b r m =
+      let z : n ≡ number_told u = en ∙ ap number_told (et ∙ sym eu) in
+      let P : ℕ → Type 0 = λ i. Judged b r i w w in
+      subst P z (judged_early (λ q. fault_some f (sym (en ∙ ap number_told et) ∙ q)) b r m)
 
   module _ (z : n ≡ 0) (a' : List ℕ) (ea' : (t : Table) → w ≡ bytes_of t → FitAgents t.agents → agents_of a' ≡ t.agents) where
     clear : (b : Book) (r : Rule) → Meant b r line w → Clear b r

@@ -1,19 +1,13 @@
--- Numbers: what the loop over at most four digits has shown, and one law for each way out of the number reader.
-use Prim.Native.Nat.{ℕ, zero, suc, ◌+◌, ◌*◌, ◌-◌, ◌≤◌, ◌<◌}
-use mathlib.Core.Path.{◌≡◌, refl, sym, ◌∙◌}
-use mathlib.Core.Bool.{Bool, true, false, not, ◌&&◌, ◌||◌}
-use mathlib.Core.List.{List, [], ◌∷◌}
-use mathlib.Core.Option.{none, some}
-use native.Mathlib.Numerals.{add-one}
-use native.Mathlib.Omega.{arith}
-use lib.ListN.{length, get_or, drop, drop_of_length-le}
-use lib.Seq.{drop-cons}
-use lib.Dec.{eqb, leb}
-use borrow.Author.Tests.{eq-eqb, ne_eqb, le-leb, lt-leb, leb-true}
+-- Numbers: what the loop over at most four digits has shown, and when a field is a number.
+use Rattle.std.specs.Prelude.{ℕ, zero, suc, ◌+◌, ◌*◌, ◌-◌, ◌≤◌, ◌<◌, ◌≡◌, refl, Bool, true, false, not, ◌&&◌, ◌||◌, List, [], ◌∷◌, length, get_or, drop, eqb, leb, Some, None}
+use Rattle.std.specs.List.{list_all}
+use Rattle.std.proofs.Common.{sym, ◌∙◌, arith, drop_of_length-le, drop-cons, add-one, leb-true, le-leb, eq-eqb, ne_eqb}
+use Rattle.std.proofs.lemmas.Bool.{lt-leb}
 use Rattle.texts.specs.Bytes.{all, digit, is_number, value, number_of}
+use Rattle.std.proofs.Math.Bool.{true≢false}
 use Rattle.texts.proofs.Beneath.Tools.{both}
-use Rattle.scan.specs.Numbers.{Digits, digits_end}
-use Rattle.scan.specs.Laws.Placing.{place_le, place_all}
+use Rattle.scan.specs.Numbers.{Digits, value_of}
+use Rattle.scan.proofs.Compare.{all_told}
 
 digit_range : (b : ℕ) → digit b ≡ true → (48 ≤ b) × (b ≤ 57)
 unfolding digit
@@ -47,86 +41,107 @@ nines-few (suc (suc (suc (suc i)))) h = absurd (omega arith)
 
 -- v is the value of the digits before i
 pub record Valued (l : List ℕ) (v i : ℕ) : Type 0 where
-  pub within : i ≤ length l
   pub small : v ≤ nines i
   pub rest : value 0 l ≡ value v (drop i l)
 
 pub valued_none : (l : List ℕ) → Valued l 0 0
-valued_none l = record { within = omega arith; small = omega arith; rest = refl }
+valued_none l = record { small = omega arith; rest = refl }
 
 module _ (l : List ℕ) (v i : ℕ) (d : Digits l) (s : Valued l v i) where
   pub valued_small : i < length l → v ≤ 999
   valued_small h = omega (arith, s.small, nines-few i (omega (arith, d.few)))
 
-  pub valued_more : i < length l → Valued l (v * 10 + (get_or l i 0 - 48)) (i + 1)
+  pub valued_more : i < length l → {m : ℕ} → m ≡ get_or l i 0 - 48 → Valued l (v * 10 + m) (i + 1)
   unfolding value nines
-  valued_more h =
+  valued_more h e =
       let g = digit_at l i d h in
       record {
-        within = omega arith;
         small = rw add-one (omega (arith, s.small, g.low, g.high));
-        rest = s.rest ∙ rw (drop-cons l i 0 h, add-one);
+        rest = s.rest ∙ rw (drop-cons l i 0 h, add-one, e);
       }
 
   pub valued_end : length l ≤ i → v ≡ value 0 l
   unfolding value
   valued_end h = sym (s.rest ∙ rw (drop_of_length-le l h))
 
--- no bytes but digits
-all_digits : (l : List ℕ) (n : ℕ) → n ≡ digits_end l → length l ≤ n → all digit l ≡ true
-all_digits l n e h =
-    place_all digit l ∙ eq-eqb (digits_end l) (length l) (omega (arith, place_le (λ b. not (digit b)) l))
+-- when a field is a number, by its length
+module _ (l : List ℕ) where
+  number_cons : 0 < length l
+      → is_number l ≡ (all digit l && leb (length l) 4 && (eqb (length l) 1 || not (eqb (get_or l 0 0) 48)))
+  unfolding is_number
+  number_cons h = go l h
+    where
+      go : (v : List ℕ) → 0 < length v
+          → is_number v ≡ (all digit v && leb (length v) 4 && (eqb (length v) 1 || not (eqb (get_or v 0 0) 48)))
+      go [] h = absurd (omega arith)
+      go (b ∷ bs) h = refl
 
-pub digits_all : (l : List ℕ) (n : ℕ) → n ≡ digits_end l → length l ≤ n → length l ≤ 4 → Digits l
-digits_all l n e h k = record { few = k; each = all_digits l n e h }
+  pub number_empty : length l ≡ 0 → false ≡ is_number l
+  unfolding is_number
+  number_empty h = go l h
+    where
+      go : (v : List ℕ) → length v ≡ 0 → false ≡ is_number v
+      go [] h = refl
+      go (b ∷ bs) h = absurd (omega arith)
 
-some_other : (l : List ℕ) (n : ℕ) → n ≡ digits_end l → n < length l → all digit l ≡ false
-some_other l n e h = place_all digit l ∙ ne_eqb (digits_end l) (length l) (λ q. omega arith)
+  pub number_one : length l ≡ 1 → {t : Bool} → t ≡ digit (get_or l 0 0) → t ≡ is_number l
+  unfolding is_number all
+  number_one h e = go l h e
+    where
+      go : (v : List ℕ) → length v ≡ 1 → {t : Bool} → t ≡ digit (get_or v 0 0) → t ≡ is_number v
+      go [] h e = absurd (omega arith)
+      go (b ∷ []) h {t} e = rw (← e) (turn t)
+        where
+          turn : (t : Bool) → t ≡ (t && true && true && true)
+          turn true = refl
+          turn false = refl
+      go (b ∷ x ∷ xs) h e = absurd (omega arith)
 
-number-cons : (l : List ℕ) → (length l ≡ 0 → ⊥)
-    → is_number l ≡ (all digit l && leb (length l) 4 && (eqb (length l) 1 || not (eqb (get_or l 0 0) 48)))
+  module _ (h : 2 ≤ length l) (k : length l ≤ 4) where
+    number_many : is_number l ≡ (all digit l && not (eqb (get_or l 0 0) 48))
+    number_many =
+        number_cons (omega arith)
+        ∙ rw (le-leb (length l) 4 k, ne_eqb (length l) 1 (λ q. omega arith)) (turn (all digit l) (eqb (get_or l 0 0) 48))
+      where
+        turn : (t u : Bool) → (t && true && (false || not u)) ≡ (t && not u)
+        turn true u = refl
+        turn false u = refl
+
+    pub number_zero : get_or l 0 0 ≡ 48 → not (eqb (get_or l 0 0) 48) ≡ is_number l
+    number_zero e = rw (eq-eqb (get_or l 0 0) 48 e) (sym (number_many ∙ rw (eq-eqb (get_or l 0 0) 48 e) (turn (all digit l))))
+      where
+        turn : (t : Bool) → (t && false) ≡ false
+        turn true = refl
+        turn false = refl
+
+    pub number_all : (get_or l 0 0 ≡ 48 → ⊥) → {t : Bool} → t ≡ list_all digit l → t ≡ is_number l
+    number_all ne e = e ∙ sym (number_many ∙ rw (ne_eqb (get_or l 0 0) 48 ne, ← all_told digit l) (turn (list_all digit l)))
+      where
+        turn : (t : Bool) → (t && true) ≡ t
+        turn true = refl
+        turn false = refl
+
+  pub number_long : 4 < length l → false ≡ is_number l
+  number_long h = sym (number_cons (omega arith) ∙ rw (lt-leb (length l) 4 h) (turn (all digit l)))
+    where
+      turn : (t : Bool) → (t && false && (eqb (length l) 1 || not (eqb (get_or l 0 0) 48))) ≡ false
+      turn true = refl
+      turn false = refl
+
+-- it has at most four bytes, each a digit
+pub number_digits : (l : List ℕ) {t : Bool} → t ≡ is_number l → t ≡ true → Digits l
 unfolding is_number
-number-cons [] h = absurd (h refl)
-number-cons (b ∷ bs) h = refl
+number_digits [] e h = absurd (true≢false (sym h ∙ e))
+number_digits (b ∷ bs) e h =
+    let l = b ∷ bs in
+    let p = both (all digit l && leb (length l) 4) (eqb (length l) 1 || not (eqb b 48)) (sym e ∙ h) in
+    let q = both (all digit l) (leb (length l) 4) p.0 in
+    record { few = leb-true (length l) 4 q.1; each = q.0 }
 
-is_none : (l : List ℕ) → is_number l ≡ false → none ≡ number_of l
+pub is_none : (l : List ℕ) {t : Bool} → t ≡ is_number l → t ≡ false → value_of None ≡ number_of l
 unfolding number_of
-is_none l h = rw h
+is_none l e h = rw (← e, h)
 
-is_some : (l : List ℕ) (v : ℕ) → v ≡ value 0 l → is_number l ≡ true → some v ≡ number_of l
+pub is_some : (l : List ℕ) {t : Bool} → t ≡ is_number l → t ≡ true → (v : ℕ) → v ≡ value 0 l → value_of (Some v) ≡ number_of l
 unfolding number_of
-is_some l v e h = rw (h, e)
-
-pub number-empty : (l : List ℕ) → length l ≡ 0 → none ≡ number_of l
-unfolding is_number
-number-empty [] h = is_none [] refl
-number-empty (b ∷ bs) h = absurd (omega arith)
-
-and_false : (t : Bool) → (t && false) ≡ false
-and_false true = refl
-and_false false = refl
-
-module _ (l : List ℕ) (ne : length l ≡ 0 → ⊥) where
-  pub number-long : 4 < length l → none ≡ number_of l
-  number-long h = is_none l (number-cons l ne ∙ rw (lt-leb (length l) 4 h, and_false (all digit l)))
-
-  module _ (n : ℕ) (e : n ≡ digits_end l) where
-    pub number_other : n < length l → none ≡ number_of l
-    number_other h = is_none l (number-cons l ne ∙ rw (some_other l n e h))
-
-    module _ (whole : length l ≤ n) (few : length l ≤ 4) where
-      pub number_one : length l ≡ 1 → (v : ℕ) → v ≡ value 0 l → some v ≡ number_of l
-      number_one h v g =
-          is_some l v g (number-cons l ne ∙ rw (all_digits l n e whole, le-leb (length l) 4 few, eq-eqb (length l) 1 h))
-
-      pub number-zero : (length l ≡ 1 → ⊥) → get_or l 0 0 ≡ 48 → none ≡ number_of l
-      number-zero h g =
-          is_none l
-          (number-cons l ne
-          ∙ rw (all_digits l n e whole, le-leb (length l) 4 few, ne_eqb (length l) 1 h, eq-eqb (get_or l 0 0) 48 g))
-
-      pub number-many : (length l ≡ 1 → ⊥) → (get_or l 0 0 ≡ 48 → ⊥) → (v : ℕ) → v ≡ value 0 l → some v ≡ number_of l
-      number-many h k v g =
-          is_some l v g
-          (number-cons l ne
-          ∙ rw (all_digits l n e whole, le-leb (length l) 4 few, ne_eqb (length l) 1 h, ne_eqb (get_or l 0 0) 48 k))
+is_some l e h v g = rw (← e, h, g)

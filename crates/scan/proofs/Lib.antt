@@ -1,7 +1,6 @@
 -- What the proofs of several functions use.
-mod Classes
 mod Scans
 mod Cuts
-mod Compare
+pub mod Compare
 mod Digits
 pub mod Beneath

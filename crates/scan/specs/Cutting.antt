@@ -1,20 +1,21 @@
 -- Lines of a text and fields of a line, by their places.
-use Rattle.std.specs.Prelude.{ℕ, zero, suc, ◌+◌, ◌-◌, cond, List, [], ◌∷◌, length, take, drop, eqb, ltb, leb}
+use Rattle.std.specs.Prelude.{ℕ, zero, suc, ◌+◌, ◌-◌, cond, List, [], ◌∷◌, length, take, drop, eqb, ltb, leb, Option, Some, None, Result, Ok, Err}
+use Rattle.parts.specs.declared.faults.Fault.{Fault}
+use Rattle.parts.specs.declared.faults.Fault.TheVariants.{BadByte}
 use Rattle.scan.specs.Places.{place, is}
-use Rattle.scan.specs.declared.cutting.NextLine.{NextLine}
-use Rattle.scan.specs.declared.cutting.NextLine.TheVariants.{Ended, Unended, Nothing}
 
 -- the part up to the first b, or all
 unfoldable pub up_to : ℕ → List ℕ → List ℕ
 up_to b l = take (place (is b) l) l
 
--- the line that begins at a place: ended by the newline at a further place, unended, or none
-unfoldable pub next_line : List ℕ → ℕ → NextLine
+-- the line that begins at a place: ended by the newline at a further place, none, or number 2: bytes with no newline after
+-- them
+unfoldable pub next_line : List ℕ → ℕ → Result (Option ℕ) Fault
 next_line text at =
-    cond (leb (length text) at) Nothing
+    cond (leb (length text) at) (Ok None)
     (cond (ltb (place (is 10) (drop at text)) (length (drop at text)))
-    (Ended (at + place (is 10) (drop at text)))
-    Unended)
+    (Ok (Some (at + place (is 10) (drop at text))))
+    (Err BadByte))
 
 -- one for a tab
 unfoldable pub tabs : ℕ → ℕ

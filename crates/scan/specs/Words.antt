@@ -1,5 +1,5 @@
 -- Words by their places: what an identifier begins with, and where a word stops.
-use Rattle.std.specs.Prelude.{ℕ, suc, ◌+◌, Bool, cond, not, ◌||◌, List, [], ◌∷◌, map, drop, eqb}
+use Rattle.std.specs.Prelude.{ℕ, ◌+◌, Bool, not, ◌||◌, List, [], map, drop, eqb}
 use Rattle.texts.specs.Bytes.{Word, letter, word_byte}
 use Rattle.texts.specs.Walk.{walk}
 use Rattle.scan.specs.Places.{place}
@@ -15,11 +15,6 @@ word_start l at = at + place word_byte (drop at l)
 -- where the word bytes from a place on end
 abbrev pub word_end : List ℕ → ℕ → ℕ
 word_end l at = at + place (λ b. not (word_byte b)) (drop at l)
-
--- the place of the first byte that no word has there that begins so, or the length
-unfoldable pub word_stop : (ℕ → Bool) → List ℕ → ℕ
-word_stop f [] = 0
-word_stop f (b ∷ bs) = cond (f b) (suc (place (λ b. not (word_byte b)) bs)) 0
 
 -- the words of a field in reading order
 unfoldable pub words_in : List ℕ → List Word

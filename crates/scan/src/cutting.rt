@@ -1,21 +1,17 @@
 // Lines cut off a text and fields cut off a line, as parts of what the caller lends.
-ghost use Rattle.std.specs.Prelude.{◌≡◌, [], ◌≤◌, length, drop, get_or};
+ghost use Rattle.std.specs.Prelude.{◌≡◌, [], ◌≤◌, length, drop, get_or, count_by};
 ghost use Rattle.texts.specs.Bytes.{fields};
 ghost use Rattle.scan.specs.Places.{place, is};
-ghost use Rattle.scan.specs.Cutting.{up_to, next_line, tabs, field_start};
+ghost use Rattle.scan.specs.Cutting.{up_to, next_line, field_start};
+
+use crate::places::first_place;
+use parts::faults::Fault;
 
 // Where b first stands in a, or a's length.
 pub fn find(a: &[u8], b: u8) -> usize
     ensures { result ≡ place (is b) a.now }
 {
-    let mut i = 0;
-    while i < a.len() {
-        if a[i] == b {
-            return i;
-        }
-        i += 1;
-    }
-    i
+    first_place(a, |x| x == b)
 }
 
 // The part of a from `at` up to the next b, or up to the end.
@@ -24,32 +20,24 @@ fn part<'a>(a: &'a [u8], at: usize, b: u8) -> &'a [u8]
     ensures { result.now ≡ up_to b (drop at a.now) }
 {
     let rest = &a[at..];
-    let n = find(rest, b);
-    &rest[..n]
+    &rest[..find(rest, b)]
 }
 
-// What stands in a text from a place on: a line with the place of its newline, bytes with no newline after them, or
-// nothing.
-#[derive(Clone, Copy)]
-pub enum NextLine {
-    Ended(usize),
-    Unended,
-    Nothing,
-}
-
-// The line that begins at `at`. The next one begins after the newline.
-pub fn next_line(text: &[u8], at: usize) -> NextLine
+// The line that begins at `at`: Some with the place of its newline, after which the next one begins; None where nothing
+// is left; number 2 where bytes are left and no newline stands after them.
+pub fn next_line(text: &[u8], at: usize) -> Result<Option<usize>, Fault>
     ensures { result ≡ next_line text.now at }
 {
     if text.len() <= at {
-        return NextLine::Nothing;
+        return Ok(None);
     }
     let rest = &text[at..];
     let n = find(rest, b'\n');
     if n < rest.len() {
-        return NextLine::Ended(at + n);
+        Ok(Some(at + n))
+    } else {
+        Err(Fault::BadByte)
     }
-    NextLine::Unended
 }
 
 // The bytes of the line that begins at `at`, without its newline.
@@ -60,26 +48,18 @@ pub fn line(text: &[u8], at: usize) -> &[u8]
     part(text, at, b'\n')
 }
 
-fn tab(b: u8) -> usize
-    ensures { result ≡ tabs b }
+// How many tabs a line has.
+fn tab_count(line: &[u8]) -> usize
+    ensures { result ≡ count_by (is 9) line.now }
 {
-    if b == b'\t' {
-        return 1;
-    }
-    0
+    line.iter().filter(|b| **b == b'\t').count()
 }
 
-// How many fields a line has.
+// How many fields a line has: one more than tabs.
 pub fn field_count(line: &[u8]) -> usize
     ensures { result ≡ length (fields line.now) }
 {
-    let mut n: usize = 1;
-    let mut i = 0;
-    while i < line.len() {
-        n += tab(line[i]);
-        i += 1;
-    }
-    n
+    1 + tab_count(line)
 }
 
 // Where field k begins, or the line's length where there are not so many.
@@ -87,18 +67,19 @@ pub fn field_start(line: &[u8], k: usize) -> usize
     ensures { result ≡ field_start line.now k }
 {
     let mut left = k;
-    let mut i = 0;
-    while i < line.len() {
+    for (i, b) in line.iter().enumerate() {
         if left == 0 {
             return i;
         }
-        left -= tab(line[i]);
-        i += 1;
+        if *b == b'\t' {
+            left -= 1;
+        }
     }
-    i
+    line.len()
 }
 
-// The field that begins at `at`: the part of the line up to the next tab.
+// The field that begins at `at`: the part of the line up to the next tab. It and `line` both stand over `part`: the byte that ends
+// a piece is named here, and callers do not choose it.
 pub fn field_at(line: &[u8], at: usize) -> &[u8]
     requires { at ≤ length line.now }
     ensures { result.now ≡ up_to 9 (drop at line.now) }

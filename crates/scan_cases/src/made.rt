@@ -2,10 +2,7 @@
 
 // The first n bytes, or all where there are not so many.
 pub fn part(bytes: &[u8], n: usize) -> &[u8] {
-    if n <= bytes.len() {
-        return &bytes[..n];
-    }
-    bytes
+    &bytes[..n.min(bytes.len())]
 }
 
 // What stands after the place n.

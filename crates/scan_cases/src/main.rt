@@ -8,10 +8,7 @@ ghost use Rattle.scan_cases.specs.Within.{Within};
 mod made;
 mod print;
 
-use field_tests::spelling::Spelling;
 use files::read_full;
-use scan::cutting::NextLine;
-use scan::numbers::Number;
 use std::io;
 
 // Room for the text read, and for a field made.
@@ -19,15 +16,15 @@ const SPACE: usize = 65536;
 
 fn spelled(rt: &impl Print, field: &[u8]) -> io::Result<()> {
     match field_tests::spelling::spelled(field) {
-        Spelling::Right => print::word(rt, b"right"),
-        Spelling::Wrong(at) => print::named(rt, b"wrong", at),
+        Ok(()) => print::word(rt, b"right"),
+        Err(at) => print::named(rt, b"wrong", at),
     }
 }
 
 fn numbered(rt: &impl Print, field: &[u8]) -> io::Result<()> {
     match scan::numbers::decimal(field) {
-        Number::Value(n) => print::named(rt, b"number", n),
-        Number::Nothing => print::word(rt, b"number none"),
+        Some(n) => print::named(rt, b"number", n),
+        None => print::word(rt, b"number none"),
     }
 }
 
@@ -85,22 +82,23 @@ fn line(rt: &impl Print, text: &[u8], at: usize) -> io::Result<usize>
     ensures { IfOk result (λ end. Within at end text.now) }
 {
     match scan::cutting::next_line(text, at) {
-        NextLine::Nothing => {
+        Ok(None) => {
             last(rt, b"nothing", at)?;
             Ok(text.len())
         }
-        NextLine::Unended => {
+        Err(_) => {
             last(rt, b"unended", at)?;
             Ok(text.len())
         }
-        NextLine::Ended(end) => {
+        Ok(Some(end)) => {
             ended(rt, scan::cutting::line(text, at), at, end)?;
             Ok(end)
         }
     }
 }
 
-// Each line of a text, and what stands after its last newline.
+// Each line of a text, and what stands after its last newline. The loop stays a `while`: what is tried here is `next_line`, which
+// goes on from one line to the next, so a `split` would try something else.
 fn lines(rt: &impl Print, text: &[u8]) -> io::Result<()> {
     let mut at: usize = 0;
     while at <= text.len() {

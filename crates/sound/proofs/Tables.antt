@@ -1,9 +1,5 @@
 -- What a lent table says to the machine.
-use mathlib.Core.Path.{◌≡◌, refl, ap}
-use mathlib.Core.List.{List, [], ◌∷◌, map}
-use Prim.Native.Nat.{ℕ, suc, ◌≤◌}
-use native.Mathlib.Omega.{arith}
-use lib.ListN.{length, get_or}
+use Rattle.std.proofs.Common.{◌≡◌, refl, ap, List, [], ◌∷◌, map, ℕ, suc, ◌≤◌, arith, length, get_or}
 use Rattle.texts.specs.Books.{Agent}
 use Rattle.texts.specs.Coded.{machine, arity_at}
 use Rattle.table.specs.Layout.{agents_in, view}

@@ -2,4 +2,5 @@
 // names stand in name_counts, the walk over cells in cell_walk, and all clauses together in lent.
 #![tactic(auto)]
 
+pub mod usable; // usable.rt: a lent table that is fit for the tests, and a state with it
 pub mod passes; // passes.rt: a function for each of these clauses

@@ -1,5 +1,5 @@
-// The clauses that a pass over an array decides. A pass goes to the end of its array.
-ghost use Rattle.std.specs.Prelude.{◌≡◌, ◌&&◌, not, ◌+◌, ◌*◌, ◌<◌, ◌≤◌, eqb, length, get_or};
+// The clauses that a pass over an array decides. A pass ends at the first place that fails.
+ghost use Rattle.std.specs.Prelude.{◌≡◌, ◌&&◌, not, ◌<◌, ◌≤◌, eqb, get_or};
 ghost use Rattle.parts.specs.Limits.{arity_max, cells_max, names_max};
 ghost use Rattle.parts.specs.Sides.{name};
 ghost use Rattle.model.specs.State.{bound};
@@ -7,70 +7,42 @@ ghost use Rattle.model.specs.Sound.{width, live};
 ghost use Rattle.model.specs.Test.{every, zeroed, declared, both_ways, sized};
 ghost use Rattle.state.specs.Layout.{view};
 ghost use Rattle.state.specs.Places.{size, words};
-ghost use Rattle.sound.specs.Clauses.{also, named, blanked, blanks, zero_past, answers};
-ghost use Rattle.sound.specs.Lent.{under, Usable};
+ghost use Rattle.sound.specs.Clauses.{blanks, zero_past, answers};
+ghost use Rattle.sound.specs.Lent.{under};
 
-use parts::{Limits, NameNo, Side, SymbolNo, decode};
-use state::{Part, Pile, count, loops, read};
+use crate::usable::{Lent, UsableTable};
+use parts::{Limits, NameNo, Side, SymbolNo};
+use state::{Part, Pile, count, loops, part_words, read};
 use table::reading::{arity_of, symbol_count};
-
-pub fn both(a: bool, b: bool) -> bool
-    ensures { result ≡ also a b }
-{
-    if a {
-        return b;
-    }
-    false
-}
-
-// The length of a lent state, which a proof learns so.
-fn len_of(s: &[u16]) -> usize
-    ensures { result ≡ length s.now }
-{
-    s.len()
-}
 
 // "all sizes hold": the lengths do, so that the counts are left to be tested.
 pub fn sized(state: &[u16; Limits::STATE]) -> bool
     ensures { result ≡ sized (view state.now) }
 {
-    len_of(state);
-    let waits = (count(state, Pile::Waits) as usize) <= Limits::WAITING;
-    let stucks = (count(state, Pile::Stucks) as usize) <= Limits::STUCK;
-    let faces = (count(state, Pile::Faces) as usize) <= Limits::FACE;
-    let few = loops(state) <= Limits::LOOPS;
-    both(waits, both(stucks, both(faces, few)))
+    usize::from(count(state, Pile::Waits)) <= Limits::WAITING
+        && usize::from(count(state, Pile::Stucks)) <= Limits::STUCK
+        && usize::from(count(state, Pile::Faces)) <= Limits::FACE
+        && loops(state) <= Limits::LOOPS
 }
 
 // "each cell's symbol is declared"
-fn named(table: &[u8; Limits::TABLE], state: &[u16; Limits::STATE], c: usize) -> bool
-    requires { c < cells_max }
-    ensures { result ≡ named (under table.now) (view state.now) c }
-{
-    read(state, Part::Symbols, c) <= (symbol_count(table) as u16)
-}
-
 pub fn declared(table: &[u8; Limits::TABLE], state: &[u16; Limits::STATE]) -> bool
     ensures { result ≡ declared (under table.now) (view state.now) }
 {
-    let mut ok = true;
-    let mut c: usize = 0;
-    while c < Limits::CELLS {
-        ok = both(named(table, state, c), ok);
-        c += 1;
-    }
-    ok
+    let most = u16::from(symbol_count(table));
+    part_words(state, Part::Symbols)
+        .iter()
+        .all(|word| *word <= most)
 }
 
 // How many arguments a cell has, by the word of its symbol.
-pub fn width_of(table: &[u8; Limits::TABLE], word: u16) -> u8
-    requires { Usable table.now }
-    ensures { (result ≡ width (under table.now).arities word) × (result ≤ arity_max) }
+pub fn width_of(table: UsableTable, word: u16) -> u8
+    ensures { (result ≡ width (under table.entry.bytes.now).arities word) × (result ≤ arity_max) }
 {
     if word == 0 {
         return 0;
     }
-    arity_of(table, SymbolNo(word - 1))
+    arity_of(table.bytes, SymbolNo(word - 1))
 }
 
 // One for a word that is not zero, as that of a cell or a name in use, and none else.
@@ -78,86 +50,41 @@ pub fn live(state: &[u16; Limits::STATE], p: Part, i: usize) -> usize
     requires { i < size p }
     ensures { (result ≡ live (words p (view state.now)) i) × (result ≤ 1) }
 {
-    if read(state, p, i) == 0 {
-        return 0;
-    }
-    1
+    usize::from(read(state, p, i) != 0)
 }
 
 // "unused places of every array and list are zero": the arguments past the arity of each cell.
-fn blanked(table: &[u8; Limits::TABLE], state: &[u16; Limits::STATE], c: usize, k: usize) -> bool
-    requires { Usable table.now × (c < cells_max) × (k < arity_max) }
-    ensures { result ≡ blanked (under table.now) (view state.now) c k }
+fn blanks(lent: Lent, c: usize) -> bool
+    requires { c < cells_max }
+    ensures { result ≡ blanks (under lent.entry.table.bytes.now) (view lent.entry.state.now) c }
 {
-    let n = width_of(table, read(state, Part::Symbols, c));
-    if k < (n as usize) {
-        return true;
-    }
-    read(state, Part::Arguments, Limits::ARITY * c + k) == 0
+    let n = usize::from(width_of(lent.table, read(lent.state, Part::Symbols, c)));
+    (n..Limits::ARITY).all(|k| read(lent.state, Part::Arguments, Limits::ARITY * c + k) == 0)
 }
 
-fn blanks(table: &[u8; Limits::TABLE], state: &[u16; Limits::STATE], c: usize) -> bool
-    requires { Usable table.now × (c < cells_max) }
-    ensures { result ≡ blanks (under table.now) (view state.now) c }
+fn all_blanks(lent: Lent) -> bool
+    ensures { result ≡ every cells_max (blanks (under lent.entry.table.bytes.now) (view lent.entry.state.now)) }
 {
-    let mut ok = true;
-    let mut k: usize = 0;
-    while k < Limits::ARITY {
-        ok = both(blanked(table, state, c, k), ok);
-        k += 1;
-    }
-    ok
+    (0..Limits::CELLS).all(|c| blanks(lent, c))
 }
 
-fn all_blanks(table: &[u8; Limits::TABLE], state: &[u16; Limits::STATE]) -> bool
-    requires { Usable table.now }
-    ensures { result ≡ every cells_max (blanks (under table.now) (view state.now)) }
+// The words of a list past the first n.
+fn zero_past(state: &[u16; Limits::STATE], p: Part, n: usize) -> bool
+    ensures { result ≡ every (size p) (zero_past n (words p (view state.now))) }
 {
-    let mut ok = true;
-    let mut c: usize = 0;
-    while c < Limits::CELLS {
-        ok = both(blanks(table, state, c), ok);
-        c += 1;
-    }
-    ok
+    part_words(state, p).iter().skip(n).all(|word| *word == 0)
 }
 
-// The words of a list past the first n, where the list has room for `len`.
-fn zero_at(state: &[u16; Limits::STATE], p: Part, n: usize, i: usize) -> bool
-    requires { i < size p }
-    ensures { result ≡ zero_past n (words p (view state.now)) i }
+pub fn zeroed(lent: Lent) -> bool
+    ensures { result ≡ zeroed (under lent.entry.table.bytes.now) (view lent.entry.state.now) }
 {
-    if i < n {
-        return true;
-    }
-    read(state, p, i) == 0
-}
-
-fn zero_past(state: &[u16; Limits::STATE], p: Part, n: usize, len: usize) -> bool
-    requires { len ≡ size p }
-    ensures { result ≡ every len (zero_past n (words p (view state.now))) }
-{
-    let mut ok = true;
-    let mut i: usize = 0;
-    while i < len {
-        ok = both(zero_at(state, p, n, i), ok);
-        i += 1;
-    }
-    ok
-}
-
-pub fn zeroed(table: &[u8; Limits::TABLE], state: &[u16; Limits::STATE]) -> bool
-    requires { Usable table.now }
-    ensures { result ≡ zeroed (under table.now) (view state.now) }
-{
-    let waits = 2 * (count(state, Pile::Waits) as usize);
-    let stucks = 2 * (count(state, Pile::Stucks) as usize);
-    let faces = count(state, Pile::Faces) as usize;
-    let cells = all_blanks(table, state);
-    let waiting = zero_past(state, Part::Waiting, waits, 2 * Limits::WAITING);
-    let stuck = zero_past(state, Part::Stuck, stucks, 2 * Limits::STUCK);
-    let face = zero_past(state, Part::Face, faces, Limits::FACE);
-    both(cells, both(waiting, both(stuck, face)))
+    let waits = 2 * usize::from(count(lent.state, Pile::Waits));
+    let stucks = 2 * usize::from(count(lent.state, Pile::Stucks));
+    let faces = usize::from(count(lent.state, Pile::Faces));
+    all_blanks(lent)
+        && zero_past(lent.state, Part::Waiting, waits)
+        && zero_past(lent.state, Part::Stuck, stucks)
+        && zero_past(lent.state, Part::Face, faces)
 }
 
 // "joins go both ways", none "joined to itself"
@@ -165,12 +92,8 @@ fn joined_back(state: &[u16; Limits::STATE], x: usize, y: NameNo) -> bool
     requires { x < names_max }
     ensures { result ≡ (eqb (get_or (view state.now).names y.0 0) (bound (name x)) && not (eqb x y.0)) }
 {
-    let j = y.0 as usize;
-    if Limits::NAMES <= j {
-        return false;
-    }
-    let word = read(state, Part::Names, j) as usize;
-    both(word == 2 + 2 * x, x != j)
+    let j = usize::from(y.0);
+    j < Limits::NAMES && usize::from(read(state, Part::Names, j)) == 2 + 2 * x && x != j
 }
 
 fn answers(state: &[u16; Limits::STATE], x: usize) -> bool
@@ -181,25 +104,14 @@ fn answers(state: &[u16; Limits::STATE], x: usize) -> bool
     if word < 2 {
         return true;
     }
-    let s = decode(word - 2);
-    match s {
-        Side::Name(y) => {
-            return joined_back(state, x, y);
-        }
-        Side::Cell(c) => {
-            return true;
-        }
+    match Side::from(word - 2) {
+        Side::Name(y) => joined_back(state, x, y),
+        Side::Cell(_) => true,
     }
 }
 
 pub fn both_ways(state: &[u16; Limits::STATE]) -> bool
     ensures { result ≡ both_ways (view state.now) }
 {
-    let mut ok = true;
-    let mut x: usize = 0;
-    while x < Limits::NAMES {
-        ok = both(answers(state, x), ok);
-        x += 1;
-    }
-    ok
+    (0..Limits::NAMES).all(|x| answers(state, x))
 }

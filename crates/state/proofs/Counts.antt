@@ -1,10 +1,14 @@
--- The empty state, and the loop that counts what is in use.
-use Prim.Native.Nat.{ℕ, suc, ◌+◌, ◌*◌, ◌<◌, ◌≤◌, min}
-use mathlib.Core.Path.{◌≡◌, refl, ap, ◌∙◌}
-use mathlib.Core.List.{List, [], ◌∷◌}
+-- The empty state, and the count of what is in use.
+use Prim.Native.Nat.{ℕ, suc, ◌+◌, ◌*◌, ◌≤◌, min}
+use mathlib.Core.Path.{◌≡◌, refl, ap, sym, ◌∙◌}
+use mathlib.Core.Bool.{cond, not}
+use mathlib.Core.List.{List, ◌∷◌}
 use native.Mathlib.Omega.{arith}
-use native.Mathlib.Numerals.{add-one}
-use lib.ListN.{length, get_or, take}
+use lib.Dec.{eqb}
+use borrow.Author.Tests.{ne_eqb}
+use lib.ListN.{get_or, take}
+use Rattle.std.specs.List.{count_by}
+use Rattle.std.proofs.lemmas.List.Recursion.{is_count_by}
 use Rattle.parts.specs.Limits.{arity_max, cells_max, names_max, waiting_max, stuck_max, face_max}
 use Rattle.parts.specs.Segments.{seg}
 use Rattle.model.specs.State.{zeros, empty, used}
@@ -43,36 +47,13 @@ view-zeros n h =
       zero_at n (loops_at + 1),
     )
 
--- Counting: of the first i places `found` are in use.
-pub record Counting (l : List ℕ) (n found i : ℕ) : Type 0 where
-  pub size : length l ≤ n
-  pub high : i ≤ n
-  pub few : found ≤ i
-  pub so_far : found ≡ used (take i l)
-
-pub count_start : (l : List ℕ) (n : ℕ) → length l ≤ n → Counting l n 0 0
-count_start l n h = record { size = h; high = omega arith; few = omega arith; so_far = refl }
-
-used-next : (l : List ℕ) (i : ℕ) → used (take (i + 1) l) ≡ used (take i l) + min 1 (get_or l i 0)
-used-next [] i = rw add-one (none i)
+-- A word that is not 0 is in use.
+used_count : (l : List ℕ) → used l ≡ count_by (λ v. not (eqb v 0)) l
+used_count l = is_count_by used (λ v. not (eqb v 0)) refl step l
   where
-    none : (i : ℕ) → used (take (suc i) []) ≡ used (take i []) + min 1 (get_or [] i 0)
-    none ℕ.zero = refl
-    none (ℕ.suc i) = refl
-used-next (v ∷ l) ℕ.zero = omega arith
-used-next (v ∷ l) (ℕ.suc i) = rw add-one (omega (arith, rw add-one at (used-next l i)))
+    step : (v : ℕ) (l : List ℕ) → min 1 v + used l ≡ cond (not (eqb v 0)) (1 + used l) (used l)
+    step ℕ.zero l = omega arith
+    step (ℕ.suc v) l = rw (ne_eqb (suc v) 0 (λ e. omega arith)) (omega arith)
 
--- v is the word read, k what it adds, and m the size found
-pub count_more : {l : List ℕ} {n found i : ℕ} (m v k : ℕ) → Counting l n found i → m ≡ n → i < m → v ≡ get_or l i 0 → k ≡ min 1 v
-    → Counting l n (found + k) (i + 1)
-count_more {l} {n} {found} {i} m v k c e h w j =
-    record { size = c.size; high = omega arith; few = omega arith; so_far = omega (arith, c.so_far, used-next l i, ap (min 1) w) }
-
-take_all : (l : List ℕ) (i : ℕ) → length l ≤ i → take i l ≡ l
-take_all [] ℕ.zero h = refl
-take_all [] (ℕ.suc i) h = refl
-take_all (v ∷ l) ℕ.zero h = absurd (omega arith)
-take_all (v ∷ l) (ℕ.suc i) h = ap (λ k. v ∷ k) (take_all l i (omega arith))
-
-pub count_end : {l : List ℕ} {n found i : ℕ} (m : ℕ) → Counting l n found i → m ≡ n → m ≤ i → found ≡ used l
-count_end {l} {n} {found} {i} m c e h = c.so_far ∙ ap used (take_all l i (omega arith))
+pub count_way : (l ws : List ℕ) (n : ℕ) → ws ≡ l → n ≡ count_by (λ v. not (eqb v 0)) ws → n ≡ used l
+count_way l ws n e f = f ∙ ap (count_by (λ v. not (eqb v 0))) e ∙ sym (used_count l)

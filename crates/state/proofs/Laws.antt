@@ -1,15 +1,14 @@
 -- What a read finds and a store changes in the view of a lent state.
-use Prim.Native.Nat.{ℕ, ◌+◌, ◌*◌, ◌/◌, ◌%◌, ◌<◌, ◌≤◌}
+use Prim.Native.Nat.{ℕ, ◌+◌, ◌-◌, ◌*◌, ◌/◌, ◌%◌, ◌<◌, ◌≤◌}
 use mathlib.Core.Path.{◌≡◌, refl, sym, ◌∙◌}
 use mathlib.Core.List.{List}
 use native.Mathlib.Omega.{arith}
 use native.Mathlib.Nat.{div-add-mod'}
-use lib.ListN.{length, length-set, get_or, set}
+use lib.ListN.{length, length-set, length-take, length-drop, get_or, set, take, drop}
 use lib.Seq.{get_or-set_same}
-use mir.Syntax.{w64}
-use mir.Val.{Fits}
 use Rattle.parts.specs.Limits.{arity_max, cells_max, names_max, waiting_max, stuck_max, face_max}
-use Rattle.parts.specs.SegmentLaws.{seg_get, seg-set, seg-behind, seg-count, seg_before, seg-length, count-seg, count-count}
+use Rattle.parts.specs.Segments.{seg}
+use Rattle.parts.specs.SegmentLaws.{seg_get, seg-set, seg-behind, seg-count, seg_before, count-seg, count-count}
 use Rattle.state.specs.Layout.{loops_at, symbols_at, arguments_at, names_at, waiting_at, stuck_at, face_at, state_size, view}
 use Rattle.state.specs.Places.{begins, size, words, stored, counted_at, pile, counted, looped}
 use Rattle.state.specs.declared.Part.{Part}
@@ -39,13 +38,19 @@ fetch Waiting w i h = sym (seg_get waiting_at (2 * waiting_max) w i h)
 fetch Stuck w i h = sym (seg_get stuck_at (2 * stuck_max) w i h)
 fetch Face w i h = sym (seg_get face_at face_max w i h)
 
-inside : (p : Part) (i : ℕ) → i < size p → begins p + i < state_size
-inside Symbols i h = omega arith
-inside Arguments i h = omega arith
-inside Names i h = omega arith
-inside Waiting i h = omega arith
-inside Stuck i h = omega arith
-inside Face i h = omega arith
+-- The words of a part lie one after another.
+parts_lie : (p : Part) (w : List ℕ) → seg (begins p) (size p) w ≡ words p (view w)
+unfolding view
+parts_lie Symbols w = refl
+parts_lie Arguments w = refl
+parts_lie Names w = refl
+parts_lie Waiting w = refl
+parts_lie Stuck w = refl
+parts_lie Face w = refl
+
+pub part_way : (p : Part) (w : List ℕ) (a n : ℕ) → a ≡ begins p → n ≡ size p → take (a + n - a) (drop a w) ≡ words p (view w)
+unfolding seg
+part_way p w a n ea en = let e : a + n - a ≡ n = omega arith in rw (e, ea, en) (parts_lie p w)
 
 -- A part, at the number where it was found to begin.
 module _ (p : Part) (a i : ℕ) (e : a ≡ begins p) (h : i < size p) where
@@ -54,15 +59,6 @@ module _ (p : Part) (a i : ℕ) (e : a ≡ begins p) (h : i < size p) where
 
   pub fetch_way : (w : List ℕ) → get_or w (a + i) 0 ≡ get_or (words p (view w)) i 0
   fetch_way w = rw e (fetch p w i h)
-
-  pub within : a + i < state_size
-  within = rw e (inside p i h)
-
-  pub sum_fits : Fits w64 (a + i)
-  sum_fits = omega (arith, within)
-
-  pub scaled : Fits w64 ((a + i) * 2)
-  scaled = omega (arith, within)
 
 store-count : (p : Pile) (w : List ℕ) (n : ℕ) → length w ≡ state_size → view (set w (counted_at p) n) ≡ counted p n (view w)
 unfolding view counted
@@ -76,11 +72,6 @@ fetch_count Waits w = refl
 fetch_count Stucks w = refl
 fetch_count Faces w = refl
 
-count_small : (p : Pile) → counted_at p < 3
-count_small Waits = omega arith
-count_small Stucks = omega arith
-count_small Faces = omega arith
-
 -- A count, at the number where it was found to stand.
 module _ (p : Pile) (a : ℕ) (e : a ≡ counted_at p) where
   pub store-count_way : (w : List ℕ) (n : ℕ) → length w ≡ state_size → view (set w a n) ≡ counted p n (view w)
@@ -88,12 +79,6 @@ module _ (p : Pile) (a : ℕ) (e : a ≡ counted_at p) where
 
   pub fetch_count_way : (w : List ℕ) → get_or w a 0 ≡ (pile p (view w)).used
   fetch_count_way w = rw e (fetch_count p w)
-
-  pub count-within : a < state_size
-  count-within = omega (arith, count_small p)
-
-  pub count_scaled : Fits w64 (a * 2)
-  count_scaled = omega (arith, count_small p)
 
 store-loops : (w : List ℕ) (v u : ℕ) → length w ≡ state_size → view (set (set w loops_at v) (loops_at + 1) u) ≡ looped (v + 65536 * u) (view w)
 unfolding view looped
@@ -107,12 +92,15 @@ store-loops_way w n h =
     let e : n % 65536 + 65536 * (n / 65536) ≡ n = omega (arith, div-add-mod' n 65536) in
     store-loops w (n % 65536) (n / 65536) h ∙ rw e
 
--- a part is no longer than its size, whatever is lent
-pub words-length : (p : Part) (w : List ℕ) → length (words p (view w)) ≤ size p
-unfolding view
-words-length Symbols w = seg-length symbols_at cells_max w
-words-length Arguments w = seg-length arguments_at (arity_max * cells_max) w
-words-length Names w = seg-length names_at names_max w
-words-length Waiting w = seg-length waiting_at (2 * waiting_max) w
-words-length Stuck w = seg-length stuck_at (2 * stuck_max) w
-words-length Face w = seg-length face_at face_max w
+-- a part of a whole state is as long as its size
+pub part_long : (p : Part) (w : List ℕ) → length w ≡ state_size → size p ≤ length (words p (view w))
+unfolding view seg
+part_long Symbols w h = omega (arith, length-take cells_max (drop symbols_at w), length-drop symbols_at w)
+part_long Arguments w h = omega (arith, length-take (arity_max * cells_max) (drop arguments_at w), length-drop arguments_at w)
+part_long Names w h = omega (arith, length-take names_max (drop names_at w), length-drop names_at w)
+part_long Waiting w h = omega (arith, length-take (2 * waiting_max) (drop waiting_at w), length-drop waiting_at w)
+part_long Stuck w h = omega (arith, length-take (2 * stuck_max) (drop stuck_at w), length-drop stuck_at w)
+part_long Face w h = omega (arith, length-take face_max (drop face_at w), length-drop face_at w)
+
+pub part_begins : (p : Part) (w ws : List ℕ) (from : ℕ) → length w ≡ state_size → ws ≡ words p (view w) → from ≤ size p → from ≤ length ws
+part_begins p w ws from h e f = rw e (omega (arith, part_long p w h))

@@ -8,7 +8,6 @@ use lib.Dec.{ltb}
 use lib.ListN.{length, get_or, take, drop, set, length-set, length-append, length-take, length-drop, get_or-append}
 use lib.Seq.{get_or-set_same, get_or-set_other, get_or-take, get_or-drop, get_or-append-add, ext_get_or}
 use borrow.Author.Tests.{ltb-true, ltb-false}
-use Rattle.parts.specs.Limits.{waiting_max}
 use Rattle.model.specs.State.{St, stack, pulled}
 use Rattle.state.specs.Places.{stored, counted, with_words}
 use Rattle.state.specs.Moves.{Pullable, out_of_waiting, down, cut, with_pile}
@@ -167,17 +166,6 @@ pub record Pulling (s₀ s : St) (k last j : ℕ) : Type 0 where
   pub only : s ≡ with_words Waiting s.waiting.words s₀
   pub shifted : Shifted s₀.waiting.words s.waiting.words k j
 
-pub pull_none : (s : St) (k n : ℕ) → n ≡ s.waiting.used → Pullable k s → Pulling s s k (n - 1) k
-pull_none s k n e h =
-    record {
-      low = omega arith;
-      high = omega (arith, h.waits);
-      ends = omega (arith, h.waits);
-      asked = h;
-      only = refl;
-      shifted = record { same = refl; below = λ i p. refl; moved = λ i p q. absurd (omega arith); above = λ i p. refl };
-    }
-
 pub pull_more : (s₀ s s₁ : St) (k last j : ℕ) → Pulling s₀ s k last j → j < last → s₁ ≡ down j s → Pulling s₀ s₁ k last (j + 1)
 unfolding down stored
 pull_more s₀ s s₁ k last j v h e =
@@ -210,9 +198,3 @@ pull_end s₀ s s₁ k last j v h e =
     (λ l m. with_pile Waits (stack l m) s₀)
     (shift_end t (omega (arith, v.low)) (omega (arith, v.ends, v.asked.size, v.asked.room)) (λ i p. v.asked.zeros i (omega (arith, v.ends))))
     n
-
-pub next_fits : {s₀ s : St} {k last j : ℕ} → Pulling s₀ s k last j → j < last → j + 1 < waiting_max
-next_fits v h = omega (arith, v.ends, v.asked.room)
-
-pub last_fits : {s₀ s : St} {k last j : ℕ} → Pulling s₀ s k last j → last < waiting_max
-last_fits v = omega (arith, v.ends, v.asked.room)

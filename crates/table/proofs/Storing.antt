@@ -1,27 +1,12 @@
--- Bytes stored one after the other: what is left to store.
-use mathlib.Core.Path.{◌≡◌, refl}
-use mathlib.Core.List.{List}
-use Prim.Native.Nat.{ℕ, suc, ◌+◌, ◌≤◌, ◌<◌}
-use native.Mathlib.Numerals.{add-one}
-use native.Mathlib.Omega.{arith}
-use lib.ListN.{length, get_or, set, drop, length-set, drop_of_length-le}
-use lib.Seq.{sets, drop-cons}
+-- Bytes stored over a part of a list.
+use Rattle.std.specs.Prelude.{ℕ, ◌≡◌, List, ◌+◌, ◌≤◌, ◌++◌, length, take, drop}
+use Rattle.std.proofs.Common.{sym, ap, ap₂, ◌∙◌, append_assoc}
+use Rattle.std.proofs.lemmas.List.Edits.{sets, sets-eq}
+use Rattle.std.proofs.lemmas.List.{drop-drop}
+use borrow.Rule.Slice.PartMut.{put_mid}
 
-pub record Storing (o₀ : List ℕ) (at : ℕ) (w o : List ℕ) (i : ℕ) : Type 0 where
-  pub within : i ≤ length w
-  pub long : length o ≡ length o₀
-  pub left : sets o₀ at w ≡ sets o (at + i) (drop i w)
-
-pub storing_none : (o : List ℕ) (at : ℕ) (w : List ℕ) → Storing o at w o 0
-storing_none o at w = record { within = omega arith; long = refl; left = let z : at + 0 ≡ at = omega arith in rw z }
-
-module _ {o₀ : List ℕ} {at : ℕ} {w o : List ℕ} {i : ℕ} (s : Storing o₀ at w o i) where
-  pub storing_more : i < length w → Storing o₀ at w (set o (at + i) (get_or w i 0)) (i + 1)
-  storing_more h = record {
-    within = omega arith;
-    long = rw length-set s.long;
-    left = let z : at + (i + 1) ≡ suc (at + i) = omega arith in rw (s.left, drop-cons w i 0, z, add-one);
-  }
-
-  pub storing_done : length w ≤ i → o ≡ sets o₀ at w
-  storing_done h = rw (s.left, drop_of_length-le)
+-- v is what the part holds now: s, k bytes of it.
+pub stored : (d s v : List ℕ) (at k : ℕ) → v ≡ s → k ≡ length s → at + length s ≤ length d → put_mid at k d v ≡ sets d at s
+stored d s v at k e ek h =
+    ap₂ (λ x n. take at d ++ (x ++ drop n (drop at d))) e ek
+    ∙ (ap (λ r. take at d ++ (s ++ r)) (drop-drop (length s) at d) ∙ (sym (append_assoc (take at d) s (drop (at + length s) d)) ∙ sym (sets-eq s d at h)))

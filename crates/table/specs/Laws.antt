@@ -4,3 +4,4 @@ pub mod Passing
 pub mod Rows
 pub mod Whole
 pub mod Finding
+pub mod Chains

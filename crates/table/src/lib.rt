@@ -31,7 +31,7 @@ impl Layout {
 }
 
 // A rule: the symbols of its left side, how many equations, cells and new names its right side has, the codes of the equations' sides, and of
-// each cell the symbol + 1 and the codes of its arguments.
+// each cell the symbol + 1 and the codes of its arguments. Document 01 names this form: flat arrays with used lengths.
 #[derive(Clone, Copy)]
 pub struct Rule {
     pub left: u8,
@@ -43,10 +43,9 @@ pub struct Rule {
     pub nodes: [u8; Limits::NODE * Limits::RULE_CELLS],
 }
 
-// The rule of a pair of symbols: none, or its number, as it is written or with its sides exchanged.
+// The number of the rule of a pair of symbols, which is written in the pair's order or with its sides exchanged.
 #[derive(Clone, Copy)]
 pub enum Match {
-    Nothing,
     Straight(u16),
     Turned(u16),
 }

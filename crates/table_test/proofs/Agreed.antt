@@ -1,14 +1,11 @@
 -- What the test of the agents finds.
-use Prim.Native.Nat.{ℕ, suc, ◌+◌, ◌*◌, ◌-◌, ◌<◌, ◌≤◌, pred}
-use mathlib.Core.Path.{◌≡◌, refl, sym, ap, ap₂, ◌∙◌}
-use mathlib.Core.Bool.{Bool, true, false, not, ◌&&◌}
-use mathlib.Core.List.{List, [], ◌∷◌, ◌++◌, append_assoc, append-nil}
-use native.Mathlib.Omega.{arith}
-use native.Mathlib.Numerals.{add-one}
-use lib.ListN.{length, get_or, take, drop, length-take, drop_of_length-le}
-use lib.Seq.{drop-cons, take-take}
-use lib.Dec.{leb}
-use borrow.Author.Tests.{leb-true, le-leb}
+use Rattle.std.specs.Prelude.{ℕ, suc, ◌+◌, ◌*◌, ◌-◌, ◌<◌, ◌≤◌, ◌≡◌, pred, Bool, true, false, not, cond, ◌&&◌, List, [], ◌∷◌, ◌++◌, length, get_or, take, drop, eqb, ltb, leb, Option, Some, None, position, refl}
+use Rattle.std.proofs.Common.{sym, ap, ap₂, ◌∙◌, arith, add-one, append_assoc, ne_eqb, ltb-false, leb-true, le-leb, append-nil}
+use Rattle.std.specs.Option.{unwrap_or}
+use Rattle.std.specs.List.{position_or_len, list_any, list_all, range_with_len}
+use Rattle.std.proofs.Math.ListN.{length-take}
+use Rattle.std.proofs.Math.Seq.{take-take, length-take-le}
+use Rattle.std.proofs.lemmas.List.Recursion.{is_position_or_len}
 use Rattle.parts.specs.Limits.{identifier_max, symbols_max, arity_max, agent_size}
 use Rattle.parts.specs.Segments.{seg}
 use Rattle.texts.specs.Bytes.{same}
@@ -22,40 +19,17 @@ use Rattle.table.specs.Layout.{agents_at, agent_row, word, agent_of, agent_at, a
 use Rattle.table.specs.Put.{no_table, only_agents, agent, with_agent}
 use Rattle.table.specs.Laws.Lists.{tab-snoc, length-tab}
 use Rattle.table.specs.Laws.Whole.{symbols-are, symbols_in}
-use Rattle.table.specs.Laws.Passing.{and_true, and_assoc, Passed, passed_more, each-passed, each-false, each_at, none_each}
+use Rattle.table.specs.Laws.Passing.{and_true, and_assoc, each_at, all_each}
+use Rattle.table.specs.Laws.Chains.{all_range, any_range}
 
 -- Letters up to the first 0.
-pub record Spelling (l : List ℕ) (i : ℕ) : Type 0 where
-  pub within : i ≤ length l
-  pub rest : length (word l) ≡ i + length (word (drop i l))
-
-pub spelling_none : (l : List ℕ) → Spelling l 0
-spelling_none l = record { within = omega arith; rest = omega arith }
-
-word-zero : (b : ℕ) (bs : List ℕ) → b ≡ 0 → length (word (b ∷ bs)) ≡ 0
+word-length : (l : List ℕ) → length (word l) ≡ position_or_len (λ b. eqb b 0) l
 unfolding word
-word-zero ℕ.zero bs e = refl
-word-zero (ℕ.suc b) bs e = absurd (omega arith)
-
-word_next : (b : ℕ) (bs : List ℕ) → (b ≡ 0 → ⊥) → length (word (b ∷ bs)) ≡ suc (length (word bs))
-unfolding word
-word_next ℕ.zero bs e = absurd (e refl)
-word_next (ℕ.suc b) bs e = refl
-
-module _ (l : List ℕ) (i : ℕ) (s : Spelling l i) where
-  pub spelling_more : i < length l → (get_or l i 0 ≡ 0 → ⊥) → Spelling l (i + 1)
-  spelling_more h e = record {
-    within = omega arith;
-    rest = s.rest ∙ (ap (λ k. i + length (word k)) (drop-cons l i 0 h) ∙ (let z = word_next (get_or l i 0) (drop (suc i) l) e in
-        let y : drop (suc i) l ≡ drop (i + 1) l = ap (λ n. drop n l) (sym (add-one i)) in omega (arith, z, ap (λ k. length (word k)) y)));
-  }
-
-  pub spelling_hit : i < length l → get_or l i 0 ≡ 0 → i ≡ length (word l)
-  spelling_hit h e = let z = s.rest ∙ ap (λ k. i + length (word k)) (drop-cons l i 0 h) in omega (arith, z, word-zero (get_or l i 0) (drop (suc i) l) e)
-
-  pub spelling_end : length l ≤ i → i ≡ length (word l)
-  unfolding word
-  spelling_end h = let z = s.rest ∙ ap (λ k. i + length (word k)) (drop_of_length-le l h) in omega (arith, z)
+word-length l = is_position_or_len (λ k. length (word k)) (λ b. eqb b 0) refl step l
+  where
+    step : (b : ℕ) (bs : List ℕ) → length (word (b ∷ bs)) ≡ cond (eqb b 0) 0 (1 + length (word bs))
+    step ℕ.zero bs = refl
+    step (ℕ.suc b) bs = rw (ne_eqb (suc b) 0 (λ e. omega arith)) (omega arith)
 
 pub word-short : (l : List ℕ) → length (word l) ≤ length l
 unfolding word
@@ -69,19 +43,29 @@ word-take [] = refl
 word-take (ℕ.zero ∷ l) = refl
 word-take (ℕ.suc b ∷ l) = ap (λ k. suc b ∷ k) (word-take l)
 
--- the letters of symbol s, cut out twice
-pub letters_way : (w p q : List ℕ) (s n : ℕ)
-    → p ≡ take (agents_at + agent_size * s + identifier_max - (agents_at + agent_size * s)) (drop (agents_at + agent_size * s) w)
-    → n ≡ length (word p) → q ≡ take (n - 0) (drop 0 p) → q ≡ (agent_at w s).symbol
-unfolding agent_at agent_of seg
-letters_way w p q s n ep en eq =
-    let z : n - 0 ≡ length (word p) = omega (arith, en) in
-    let y : agents_at + agent_size * s + identifier_max - (agents_at + agent_size * s) ≡ identifier_max = omega arith in
-    eq ∙ (ap (λ i. take i p) z ∙ (word-take p ∙ ap word (ep ∙ (ap (λ i. take i (drop (agents_at + agent_size * s) w)) y
-    ∙ sym (take-take identifier_max agent_size (drop (agents_at + agent_size * s) w) (omega arith))))))
+found_or : (k n : ℕ) → k ≤ n → (b : Bool) → ltb k n ≡ b → unwrap_or (cond b (Some k) None) n ≡ k
+found_or k n h true e = refl
+found_or k n h false e = omega (arith, ltb-false k n e)
 
-pub letters-fit : (p : List ℕ) (n : ℕ) → n ≡ length (word p) → n ≤ length p
-letters-fit p n e = omega (arith, e, word-short p)
+-- o is the place of the first 0
+pub first_zero : (l : List ℕ) {o : Option ℕ} → o ≡ position (λ b. eqb b 0) l → {n : ℕ} → n ≡ unwrap_or o (length l) → n ≡ length (word l)
+first_zero l eo en =
+    let k = position_or_len (λ b. eqb b 0) l in
+    let small : k ≤ length l = omega (arith, word-short l, word-length l) in
+    en ∙ (ap (λ x. unwrap_or x (length l)) eo ∙ (found_or k (length l) small (ltb k (length l)) refl ∙ sym (word-length l)))
+
+-- the letters of symbol s, cut out twice
+pub letters_way : (w p : List ℕ) (s n : ℕ)
+    → p ≡ take (agents_at + agent_size * s + identifier_max - (agents_at + agent_size * s)) (drop (agents_at + agent_size * s) w)
+    → n ≡ length (word p) → take n p ≡ (agent_at w s).symbol
+unfolding agent_at agent_of seg
+letters_way w p s n ep en =
+    let y : agents_at + agent_size * s + identifier_max - (agents_at + agent_size * s) ≡ identifier_max = omega arith in
+    ap (λ i. take i p) en ∙ (word-take p ∙ ap word (ep ∙ (ap (λ i. take i (drop (agents_at + agent_size * s) w)) y
+    ∙ sym (take-take identifier_max agent_size (drop (agents_at + agent_size * s) w) (omega arith)))))
+
+pub letters-fit : (p : List ℕ) (n : ℕ) → n ≡ length (word p) → n ≡ length (take n p)
+letters-fit p n e = sym (length-take-le n p (omega (arith, e, word-short p)))
 
 pub arity_way : (w : List ℕ) (s b r : ℕ) → b ≡ get_or (agent_row w s) identifier_max 0 → r ≡ pred b → r ≡ (agent_at w s).arity
 unfolding agent_at agent_of
@@ -91,36 +75,18 @@ short : (w : List ℕ) (s : ℕ) → length (agent_at w s).symbol ≤ identifier
 unfolding agent_at agent_of
 short w s = omega (arith, word-short (take identifier_max (agent_row w s)), length-take identifier_max (agent_row w s))
 
-pub agent-yes : (w : List ℕ) (s m n : ℕ) (t : Bool) (v : List ℕ) → v ≡ (agent_at w s).symbol → t ≡ symbol v → t ≡ true → m ≡ (agent_at w s).arity → n ≡ m
-    → leb n arity_max ≡ agent_ok (agent_at w s)
+pub agent-test : (w : List ℕ) (s : ℕ) (v : List ℕ) → v ≡ (agent_at w s).symbol → agent_ok (agent_at w s) ≡ (symbol v && leb (agent_at w s).arity arity_max)
 unfolding agent_ok
-agent-yes w s m n t v ev et e em en =
-    let y : symbol (agent_at w s).symbol ≡ true = sym (et ∙ ap symbol ev) ∙ e in
+agent-test w s v e =
     let l : leb (length (agent_at w s).symbol) identifier_max ≡ true = le-leb _ _ (short w s) in
-    rw (y, l) (ap (λ i. leb i arity_max) (en ∙ em))
+    ap (λ t. (symbol (agent_at w s).symbol && t) && leb (agent_at w s).arity arity_max) l
+    ∙ ap (λ t. t && leb (agent_at w s).arity arity_max) (and_true (symbol (agent_at w s).symbol) ∙ ap symbol (sym e))
 
-pub agent_no : (w : List ℕ) (s : ℕ) (t : Bool) (v : List ℕ) → v ≡ (agent_at w s).symbol → t ≡ symbol v → t ≡ false → false ≡ agent_ok (agent_at w s)
-unfolding agent_ok
-agent_no w s t v ev et e = let y : symbol (agent_at w s).symbol ≡ false = sym (et ∙ ap symbol ev) ∙ e in rw y
-
--- No symbol before is spelt so: the test at each number.
-abbrev pub Other : List ℕ → ℕ → ℕ → Bool
-Other w s k = not (same (agent_at w s).symbol (agent_at w k).symbol)
-
-other_each : (w : List ℕ) (s : ℕ) → not (declared (tab s (agent_at w)) (agent_at w s).symbol) ≡ each s (Other w s)
+-- No symbol before is spelt so.
+pub other-range : (w : List ℕ) (s : ℕ) (t : Bool) → t ≡ list_any (λ j. same (agent_at w s).symbol (agent_at w j).symbol) (range_with_len 0 s)
+    → not t ≡ not (declared (tab s (agent_at w)) (agent_at w s).symbol)
 unfolding declared
-other_each w s = none_each (λ a. same (agent_at w s).symbol a.symbol) s (agent_at w)
-
-module _ (w : List ℕ) (s j : ℕ) (t : Bool) (v u : List ℕ) (q : Passed (Other w s) s j) (h : j < s)
-    (ev : v ≡ (agent_at w s).symbol) (eu : u ≡ (agent_at w j).symbol) (et : t ≡ same v u) where
-  pub other_more : t ≡ false → Passed (Other w s) s (j + 1)
-  other_more e = passed_more (Other w s) s j q h (ap not (sym (et ∙ ap₂ same ev eu) ∙ e))
-
-  pub other_hit : t ≡ true → false ≡ not (declared (tab s (agent_at w)) (agent_at w s).symbol)
-  other_hit e = sym (other_each w s ∙ each-false (Other w s) s j h (ap not (sym (et ∙ ap₂ same ev eu) ∙ e)))
-
-pub other_end : (w : List ℕ) (s j : ℕ) → Passed (Other w s) s j → s ≤ j → true ≡ not (declared (tab s (agent_at w)) (agent_at w s).symbol)
-other_end w s j q h = sym (other_each w s ∙ each-passed (Other w s) s j q h)
+other-range w s t h = ap not (any_range (λ a. same (agent_at w s).symbol a.symbol) s s (agent_at w) t refl h)
 
 -- Each agent after those before it: the test at each number.
 abbrev pub Agreed : List ℕ → ℕ → Bool
@@ -146,23 +112,10 @@ are w = ap (λ n. tab n (λ k. agent_of (agent_row w k))) (sym (length-tab (get_
 pub agents-are : (w : List ℕ) → test_agents [] (agents_in w) ≡ each (length (agents_in w)) (Agreed w)
 agents-are w = ap (test_agents []) (are w) ∙ agents-each w (length (agents_in w))
 
--- n is the count, m the same in another width
-module _ (w : List ℕ) (n m s : ℕ) (em : m ≡ length (agents_in w)) (en : n ≡ m) where
-  pub agreed_more : (t u : Bool) → Passed (Agreed w) n s → s < n → t ≡ agent_ok (agent_at w s) → t ≡ true
-      → u ≡ not (declared (tab s (agent_at w)) (agent_at w s).symbol) → u ≡ true → Passed (Agreed w) n (s + 1)
-  agreed_more t u q h et e eu f = passed_more (Agreed w) n s q h (ap₂ ◌&&◌ (sym et ∙ e) (sym eu ∙ f))
-
-  pub agreed-bad : (t : Bool) → s < n → t ≡ agent_ok (agent_at w s) → t ≡ false → false ≡ test_agents [] (agents_in w)
-  agreed-bad t h et e =
-      sym (agents-are w ∙ each-false (Agreed w) (length (agents_in w)) s (omega arith) (ap (λ b. b && not (declared (tab s (agent_at w)) (agent_at w s).symbol)) (sym et ∙ e)))
-
-  pub agreed_old : (t u : Bool) → s < n → t ≡ agent_ok (agent_at w s) → t ≡ true → u ≡ not (declared (tab s (agent_at w)) (agent_at w s).symbol) → u ≡ false
-      → false ≡ test_agents [] (agents_in w)
-  agreed_old t u h et e eu f =
-      sym (agents-are w ∙ each-false (Agreed w) (length (agents_in w)) s (omega arith) (ap₂ ◌&&◌ (sym et ∙ e) (sym eu ∙ f)))
-
-  pub agreed_end : Passed (Agreed w) n s → n ≤ s → true ≡ test_agents [] (agents_in w)
-  agreed_end q h = sym (agents-are w ∙ (ap (λ k. each k (Agreed w)) (sym (en ∙ em)) ∙ each-passed (Agreed w) n s q h))
+-- n is the count as it was read
+pub agents-range : (w : List ℕ) (n : ℕ) (t : Bool) → n ≡ length (agents_in w) → t ≡ list_all (Agreed w) (range_with_len 0 n) → t ≡ test_agents [] (agents_in w)
+agents-range w n t e h =
+    all_range (Agreed w) n (length (agents_in w)) (λ k. k) t e h ∙ (all_each (Agreed w) (length (agents_in w)) (λ k. k) ∙ sym (agents-are w))
 
 -- The agents written once more.
 pub record Copied (w o : List ℕ) (s : ℕ) : Type 0 where

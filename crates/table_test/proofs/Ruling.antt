@@ -1,16 +1,8 @@
 -- What the test of all rules finds, and of a whole table.
-use Prim.Native.Nat.{ℕ, ◌+◌, ◌<◌, ◌≤◌}
-use mathlib.Core.Path.{◌≡◌, refl, sym, ap, ◌∙◌}
-use mathlib.Core.Bool.{Bool, true, false, not, ◌&&◌}
-use mathlib.Core.List.{List, [], ◌∷◌, ◌++◌, append-nil, append_assoc}
-use native.Mathlib.Omega.{arith}
-use native.Mathlib.Numerals.{add-one}
-use borrow.Author.Count.{below_none, below_more}
-use lib.ListN.{length, get_or}
-use lib.Seq.{ext_get_or}
-use lib.Dec.{eqb, leb}
-use borrow.Author.Tests.{eq-eqb, eqb-true, le-leb, leb-true, not-true}
-use Rattle.parts.specs.Limits.{symbols_max, rules_max, rule_size, table_size}
+use Rattle.std.specs.Prelude.{ℕ, ◌+◌, ◌<◌, ◌≤◌, ◌≡◌, refl, Bool, true, false, not, ◌&&◌, List, [], ◌∷◌, ◌++◌, length, get_or, leb}
+use Rattle.std.proofs.Common.{sym, ap, ◌∙◌, append-nil, append_assoc, arith, add-one, le-leb, leb-true}
+use borrow.Author.Tests.{not-true}
+use Rattle.parts.specs.Limits.{symbols_max, rules_max}
 use Rattle.model.specs.Table.{Entry, none, find}
 use Rattle.texts.specs.Bytes.{any}
 use Rattle.texts.specs.Books.{Agent}
@@ -22,7 +14,7 @@ use Rattle.texts.proofs.Beneath.Exact.{test_sound}
 use Rattle.texts.proofs.Beneath.Clauses.{clauses_of}
 use Rattle.table.specs.Lists.{tab, each}
 use Rattle.table.specs.Layout.{agents_in, rules_in, rule_row, entry_of, entry_at, view, bytes_of, table_bytes}
-use Rattle.table.specs.Put.{no_table, only_agents, with_rule}
+use Rattle.table.specs.Put.{only_agents, with_rule}
 use Rattle.table_test.specs.Whole.{rule_new, RulesWait}
 use Rattle.table.specs.Given.{Given}
 use Rattle.table.specs.Laws.Lists.{tab-snoc, length-tab}
@@ -30,40 +22,11 @@ use Rattle.table.specs.Laws.Finding.{found-any, none_found}
 use Rattle.table.specs.Laws.Whole.{FitAgents, rules_in_lem, agents_back, tested-agents, tested-fits, view-bytes}
 use Rattle.table.specs.Laws.Passing.{Passed, passed_none, passed_more, each-passed, each-false, and_assoc, and_true}
 
--- Bytes compared one by one, with a count of those that differ.
-pub record Comparing (a b : List ℕ) (found i : ℕ) : Type 0 where
-  pub within : i ≤ table_size
-  pub few : found ≤ i
-  pub alike : found ≡ 0 → (k : ℕ) → k < i → get_or a k 0 ≡ get_or b k 0
-  pub none_differ : ((k : ℕ) → k < i → get_or a k 0 ≡ get_or b k 0) → found ≡ 0
-
-pub comparing_none : (a b : List ℕ) → Comparing a b 0 0
-comparing_none a b = record { within = omega arith; few = omega arith; alike = λ e. below_none _; none_differ = λ h. refl }
-
-pub comparing_more : (a b : List ℕ) (found i n : ℕ) → Comparing a b found i → i < table_size → n ≤ 1 → (n ≡ 0 → get_or a i 0 ≡ get_or b i 0) → (get_or a i 0 ≡ get_or b i 0 → n ≡ 0)
-    → Comparing a b (found + n) (i + 1)
-comparing_more a b found i n c h small to from = record {
-  within = omega arith;
-  few = omega (arith, c.few);
-  alike = λ e. below_more _ i (c.alike (omega (arith, e))) (to (omega (arith, e)));
-  none_differ = λ f. let x : found ≡ 0 = c.none_differ (λ k q. f k (omega (arith, q))) in let y : n ≡ 0 = from (f i (omega arith)) in omega arith;
-}
-
-pub comparing_end : (a b : List ℕ) (found i : ℕ) → Comparing a b found i → table_size ≤ i → length a ≡ table_size → length b ≡ table_size
-    → (eqb found 0 ≡ true → a ≡ b) × (a ≡ b → eqb found 0 ≡ true)
-comparing_end a b found i c h la lb =
-    (λ e. ext_get_or 0 a b (la ∙ sym lb) (λ k q. c.alike (eqb-true found 0 e) k (omega (arith, q, la))), λ e. eq-eqb found 0 (c.none_differ (λ k q. ap (λ l. get_or l k 0) e)))
-
 -- A rule after those that are written: r is its row.
-pub rule-yes : (w o r : List ℕ) (a b : Bool) → a ≡ test_template (agents_in w) (entry_of (agents_in w) r) → a ≡ true
-    → ((t : Table) → o ≡ bytes_of t → b ≡ any (pair_test (get_or r 0 0) (get_or r 1 0)) t.rules) → (t : Table) → o ≡ bytes_of t → not b ≡ rule_new w r t.rules
+pub rule_test : (w r : List ℕ) (rs : List Entry)
+    → rule_new w r rs ≡ (test_template (agents_in w) (entry_of (agents_in w) r) && not (any (pair_test (get_or r 0 0) (get_or r 1 0)) rs))
 unfolding rule_new
-rule-yes w o r a b ea e eb t q = ap not (eb t q) ∙ sym (rw (sym ea ∙ e))
-
-pub rule_no : (w o r : List ℕ) (a : Bool) → a ≡ test_template (agents_in w) (entry_of (agents_in w) r) → a ≡ false
-    → (t : Table) → o ≡ bytes_of t → false ≡ rule_new w r t.rules
-unfolding rule_new
-rule_no w o r a ea e t q = sym (rw (sym ea ∙ e))
+rule_test w r rs = refl
 
 -- Both symbols of a rule that passes are declared.
 declared-both : (w r : List ℕ) → test_template (agents_in w) (entry_of (agents_in w) r) ≡ true → (get_or r 0 0 < length (agents_in w)) × (get_or r 1 0 < length (agents_in w))
@@ -130,13 +93,12 @@ module _ (w o₀ o r : List ℕ) (n k : ℕ) (f : RulesWait w o₀) (en : n ≡ 
     fresh : find (tab k (entry_at w)) 0 (get_or r 0 0) (get_or r 1 0) ≡ none
     fresh = none_found (find (tab k (entry_at w)) 0 (get_or r 0 0) (get_or r 1 0)) (sym (found-any (tab k (entry_at w)) 0 (get_or r 0 0) (get_or r 1 0)) ∙ not-true _ passes.1)
 
-    pub ruling_room : length r ≡ rule_size
-        → (length (agents_in o) ≤ symbols_max) × (rules_in o < rules_max) × (length r ≡ rule_size) × (get_or r 0 0 < symbols_max) × (get_or r 1 0 < symbols_max)
-    ruling_room l =
+    pub ruling_room : (length (agents_in o) ≤ symbols_max) × (rules_in o < rules_max) × (get_or r 0 0 < symbols_max) × (get_or r 1 0 < symbols_max)
+    ruling_room =
         let a : length (agents_in o) ≡ length (agents_in w) = ap (λ l. length (agents_in l)) g.made ∙ ap length (agents_back (Part w k) f.fit) in
         let m : rules_in o ≡ k = ap rules_in g.made ∙ (rules_in_lem (Part w k) ∙ length-tab k (entry_at w)) in
         let s = rule-symbols w r true f.fit (sym passes.0) refl in
-        (omega (arith, a, f.fit.few), omega (arith, m, h, en, f.few), l, s.0, s.1)
+        (omega (arith, a, f.fit.few), omega (arith, m, h, en, f.few), s.0, s.1)
 
     pub ruling_more : (p : List ℕ)
         → ((t : Table) → o ≡ bytes_of t → FitAgents t.agents → find t.rules 0 (get_or r 0 0) (get_or r 1 0) ≡ none → p ≡ bytes_of (with_rule (entry_of t.agents r) t))
@@ -201,8 +163,8 @@ many-rules w n en h = (no_truth, λ g. absurd (let p = parts w (given-tested w g
 pub bad-agents : (w : List ℕ) (t : Bool) → t ≡ test_agents [] (agents_in w) → t ≡ false → Told w false
 bad-agents w t et e = (no_truth, λ g. sym e ∙ (et ∙ (parts w (given-tested w g).0).2))
 
-pub bad-rules : (w : List ℕ) (t : Bool) → t ≡ test_templates (agents_in w) [] (view w).rules → t ≡ false → Told w false
-bad-rules w t et e = (no_truth, λ g. sym e ∙ (et ∙ (parts w (given-tested w g).0).3))
+pub bad-rules : (w : List ℕ) (t : Bool) → t ≡ test_templates (agents_in w) [] (view w).rules → t ≡ false → Told w t
+bad-rules w t et e = (λ h. no_truth (sym e ∙ h), λ g. et ∙ (parts w (given-tested w g).0).3)
 
 pub all_told : (w o : List ℕ) (n m k : ℕ) (a b t : Bool) → m ≡ length (agents_in w) → n ≡ m → n ≤ symbols_max → k ≡ rules_in w → k ≤ rules_max
     → a ≡ test_agents [] (agents_in w) → a ≡ true → b ≡ test_templates (agents_in w) [] (view w).rules → b ≡ true → (b ≡ true → o ≡ bytes_of (view w))
@@ -212,18 +174,10 @@ all_told w o n m k a b t em en hn ek hk ea ya eb yb made to from = (
   λ g. from ((given-tested w g).1 ∙ sym (made yb)),
 )
 
--- What the test of a rule asks for.
-pub ruling_asks : (w o r : List ℕ) → RulesWait w o → length r ≡ rule_size → FitAgents (agents_in w) × (length r ≡ rule_size)
-ruling_asks w o r f h = (f.fit, h)
-
 pub ruling_below : (w o : List ℕ) (n k : ℕ) → RulesWait w o → n ≡ rules_in w → k < n → k < rules_max
 ruling_below w o n k f en h = omega (arith, f.few)
 
 -- What the calls of the whole test ask for; n is the count of symbols as it was read, m the same in another width, k the count of rules.
-pub agents_wait : (w o : List ℕ) (n m : ℕ) (a : Bool) → m ≡ length (agents_in w) → n ≡ m → n ≤ symbols_max → a ≡ test_agents [] (agents_in w) → a ≡ true → o ≡ bytes_of no_table
-    → (length (agents_in w) ≤ symbols_max) × (test_agents [] (agents_in w) ≡ true) × (o ≡ bytes_of no_table)
-agents_wait w o n m a em en h ea e eo = (omega (arith, em, en, h), sym ea ∙ e, eo)
-
 pub rules_wait : (w o : List ℕ) (n m k : ℕ) (a : Bool) → m ≡ length (agents_in w) → n ≡ m → n ≤ symbols_max → a ≡ test_agents [] (agents_in w) → a ≡ true
     → k ≡ rules_in w → k ≤ rules_max → o ≡ bytes_of (only_agents (agents_in w)) → RulesWait w o
 rules_wait w o n m k a em en h ea e ek hk eo =

@@ -1,5 +1,4 @@
 pub mod Parts
-pub mod Bytes
 pub mod Look
 pub mod Main
 pub mod Beneath

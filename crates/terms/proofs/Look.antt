@@ -1,25 +1,26 @@
 -- One law for each way out of the look-ups. Assumes nothing.
-use Prim.Native.Nat.{ℕ, suc, ◌+◌, ◌-◌, ◌*◌, ◌<◌, ◌≤◌}
-use mathlib.Core.Path.{◌≡◌, refl, sym, ◌∙◌}
-use mathlib.Core.Bool.{Bool, true, false, cond}
-use mathlib.Core.List.{List, [], ◌∷◌}
-use native.Mathlib.Omega.{arith}
+use lib.Pointwise.{pointwise}
+use Rattle.std.specs.Prelude.{eqb, None, Some, ℕ, suc, ◌+◌, ◌-◌, ◌*◌, ◌<◌, ◌≤◌, ◌≡◌, refl, Bool, true, false, cond, List, [], ◌∷◌, length, get_or, take, drop}
+use Rattle.std.proofs.Common.{sym, ◌∙◌, arith, length-take-le, eq-eqb, ne_eqb}
 use native.Mathlib.Nat.{sub-zero}
-use lib.ListN.{get_or, take, drop}
-use borrow.Author.Tests.{eq-eqb, ne_eqb}
 use Rattle.parts.specs.Limits.{identifier_max, symbols_max, agent_size}
 use Rattle.texts.specs.Bytes.{Word, same, index_of}
 use Rattle.scan.specs.Places.{place, is}
+use Rattle.scan.proofs.Compare.{same_told}
+use Rattle.scan.specs.Laws.Placing.{place_le}
 use Rattle.scan.specs.Cutting.{up_to}
 use Rattle.terms.specs.Agents.{spelling_at, agents_from, agents_of}
-use Rattle.terms.specs.Words.{found, entry, entries_from, entries}
-use Rattle.terms.specs.declared.words.Found.{Found}
+use Rattle.terms.specs.Words.{known, found, entry, entries_from, entries}
 
-pub agent_way : (bytes row part word : List ℕ) (at n : ℕ) {r : Bool} → row ≡ take identifier_max (drop at bytes)
+-- what is cut off a row ends within it
+pub cut_whole : (row : List ℕ) {n : ℕ} → n ≡ place (is 0) row → n ≡ length (take n row)
+cut_whole row e = sym (length-take-le _ row (rw e (place_le (is 0) row)))
+
+pub agent_way : (bytes row word : List ℕ) (at n : ℕ) {r : Bool} → row ≡ take identifier_max (drop at bytes)
     → n ≡ place (is 0) row
-    → part ≡ take n (drop 0 row) → r ≡ same word part → r ≡ same word (spelling_at at bytes)
+    → r ≡ pointwise eqb word (take n row) → r ≡ same word (spelling_at at bytes)
 unfolding spelling_at up_to
-agent_way bytes row part word at n e m p q = q ∙ rw (p, m, e)
+agent_way bytes row word at n e m q = q ∙ (same_told word (take n row) ∙ rw (m, e))
 
 -- the first k agents are passed
 pub record Looked (bytes : List ℕ) (w : Word) (k : ℕ) : Type 0 where
@@ -47,34 +48,34 @@ module _
   left : symbols_max - k ≡ suc (symbols_max - (k + 1))
   left = omega arith
 
-  pub looked_past : a ≡ 0 → Found.Nothing ≡ found 0 (agents_of bytes) w
+  pub looked_past : a ≡ 0 → None ≡ found 0 (agents_of bytes) w
   unfolding found
   looked_past z = rw (left, rows_none (symbols_max - (k + 1)) k bytes (sym last ∙ z)) at l.rest
 
   module _ (some : a ≡ 0 → ⊥) where
     row : found k (agents_from (symbols_max - k) k bytes) w
-        ≡ cond (same w (spelling_at (agent_size * k) bytes)) (Found.Agent (record { 0 = k }) (a - 1)) (found (k + 1) (agents_from (symbols_max - (k + 1)) (k + 1) bytes) w)
+        ≡ cond (same w (spelling_at (agent_size * k) bytes)) (Some (known k (a - 1))) (found (k + 1) (agents_from (symbols_max - (k + 1)) (k + 1) bytes) w)
     unfolding found
     row = rw (left, rows_some (symbols_max - (k + 1)) k bytes (λ z. some (last ∙ z)), last)
 
     pub looked_here : (t : Bool) → t ≡ same w (spelling_at (agent_size * k) bytes) → t ≡ true → (m : ℕ) → m ≡ a
-        → Found.Agent (record { 0 = k }) (m - 1) ≡ found 0 (agents_of bytes) w
+        → Some (known k (m - 1)) ≡ found 0 (agents_of bytes) w
     looked_here t e y m q = rw q (sym (row ∙ rw (← e, y)) ∙ l.rest)
 
     pub looked_more : (t : Bool) → t ≡ same w (spelling_at (agent_size * k) bytes) → t ≡ false → Looked bytes w (k + 1)
     looked_more t e y = record { within = omega arith; rest = sym (row ∙ rw (← e, y)) ∙ l.rest }
 
 pub looked_end : {bytes : List ℕ} {w : Word} {k : ℕ} → Looked bytes w k → symbols_max ≤ k
-    → Found.Nothing ≡ found 0 (agents_of bytes) w
+    → None ≡ found 0 (agents_of bytes) w
 unfolding found agents_from
 looked_end {bytes} {w} {k} l h = let e : symbols_max - k ≡ 0 = omega arith in rw e at l.rest
 
 -- the spelling of name k
 pub name_way : (text places part word : List ℕ) (k p n : ℕ) {r : Bool} → p ≡ get_or places (2 * k) 0
     → n ≡ get_or places (2 * k + 1) 0
-    → part ≡ take n (drop p text) → r ≡ same word part → r ≡ same word (entry text places k)
+    → part ≡ take n (drop p text) → r ≡ pointwise eqb word part → r ≡ same word (entry text places k)
 unfolding entry
-name_way text places part word k p n ep en e q = q ∙ rw (e, ep, en)
+name_way text places part word k p n ep en e q = q ∙ (same_told word part ∙ rw (e, ep, en))
 
 -- the first k of n names are passed
 pub record Sought (text places : List ℕ) (n : ℕ) (w : Word) (k : ℕ) : Type 0 where
@@ -104,3 +105,8 @@ module _ {text places : List ℕ} {n : ℕ} {w : Word} {k : ℕ} (s : Sought tex
   sought_end h =
       let l : n - k ≡ 0 = omega arith in
       let z : index_of w (entries_from text places k (n - k)) ≡ 0 = rw l in omega (arith, s.rest)
+
+-- the laws of each function
+pub ruleset agent_laws = (looked_none, looked_past, looked_here, looked_more, looked_end)
+
+pub ruleset name_laws = (sought_none, sought_here, sought_more, sought_end)

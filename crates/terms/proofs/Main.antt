@@ -1,5 +1,5 @@
 -- What the reader means: a field that spells a term is read as that term exactly where every identifier has as many arguments as it takes.
-use Rattle.std.specs.Prelude.{ℕ, ◌≡◌, true, false, List, [], ◌∷◌, ◌++◌, length, get_or}
+use Rattle.std.specs.Prelude.{None, Some, ℕ, ◌≡◌, true, false, List, [], ◌∷◌, ◌++◌, length, get_or}
 use Rattle.parts.specs.Sides.{code}
 use Rattle.texts.specs.Bytes.{Word, any, different}
 use Rattle.texts.specs.Terms.{Term, nodes}
@@ -14,7 +14,6 @@ use Rattle.terms.specs.Meaning.{number, side_at, term_cells, Holds, grown, Spell
 use Rattle.terms.proofs.Beneath.Rows as Rows
 use Rattle.terms.proofs.Beneath.Views as Views
 use Rattle.terms.proofs.Beneath.Whole as Whole
-use Rattle.terms.specs.declared.Field.{Field}
 
 module _ (text : List ℕ) (ags : List Agent) (from to : ℕ) (s : Sheet) (t : Term) (f : Spells text from to t) where
   -- Every identifier has as many arguments as it takes: the answer is the code of the term, whose cells stand behind those of
@@ -22,13 +21,13 @@ module _ (text : List ℕ) (ags : List Agent) (from to : ℕ) (s : Sheet) (t : T
   pub read_right : (cs : List Cell) (ws zs : List Word) → Holds text s cs ws → Room text ags (length cs) ws t
       → any (wrong_args ags) (nodes (t ∷ [])) ≡ false
       → let W : List Word = grown ws (names_of ags (t ∷ [])) ++ zs in
-      (s₁ : Sheet) × (field_by text ags from to s ≡ done (Field.Code (code (side_at ags (number W) (length cs) t))) s₁)
+      (s₁ : Sheet) × (field_by text ags from to s ≡ done (Some (code (side_at ags (number W) (length cs) t))) s₁)
       × Holds text s₁ (cs ++ term_cells ags (number W) (length cs) t) (grown ws (names_of ags (t ∷ [])))
   read_right cs ws zs h r ok = Whole.read_right text ags from to s t f cs ws zs h r ok
 
-  -- Some identifier has another number of arguments: the answer is Wrong.
+  -- Some identifier has another number of arguments: there is no answer.
   pub read-wrong : any (wrong_args ags) (nodes (t ∷ [])) ≡ true
-      → (s₁ : Sheet) × (field_by text ags from to s ≡ done Field.Wrong s₁)
+      → (s₁ : Sheet) × (field_by text ags from to s ≡ done None s₁)
   read-wrong bad = Whole.read-wrong text ags from to s t f bad
 
 -- An array that is laid out for some agents stands for them.

@@ -1,18 +1,22 @@
 -- Words of a text, and how they are looked up: among the agents, and among the names of a sheet.
-use Rattle.std.specs.Prelude.{ℕ, zero, suc, ◌+◌, ◌-◌, ◌*◌, ◌≤◌, ◌≡◌, cond, List, [], ◌∷◌, length, get_or, take, drop}
+use Rattle.std.specs.Prelude.{ℕ, zero, suc, ◌+◌, ◌-◌, ◌*◌, ◌≤◌, ◌≡◌, cond, List, [], ◌∷◌, length, get_or, take, drop, Option, None, Some}
 use Rattle.texts.specs.Bytes.{Word, same}
 use Rattle.texts.specs.Books.{Agent}
-use Rattle.terms.specs.declared.words.Found.{Found}
+use Rattle.terms.specs.declared.words.Agent.{Agent as Known}
 
 -- b is the byte at place i, 0 past the end: one that is not 0 stands before the end
 pub record ByteAt (text : List ℕ) (i b : ℕ) : Type 0 where
   pub is : b ≡ get_or text i 0
   pub inside : b ≤ 255 * (length text - i)
 
+-- an agent by its number and its arity, as the code has it
+abbrev pub known : ℕ → ℕ → Known
+known k arity = record { symbol = record { 0 = k }; arity = arity }
+
 -- the agent of a spelling, the first in the list being number k
-unfoldable pub found : ℕ → List Agent → Word → Found
-found k [] w = Found.Nothing
-found k (a ∷ ags) w = cond (same w a.symbol) (Found.Agent (record { 0 = k }) a.arity) (found (k + 1) ags w)
+unfoldable pub found : ℕ → List Agent → Word → Option Known
+found k [] w = None
+found k (a ∷ ags) w = cond (same w a.symbol) (Some (known k a.arity)) (found (k + 1) ags w)
 
 -- the spelling of name k
 unfoldable pub entry : List ℕ → List ℕ → ℕ → Word

@@ -12,204 +12,174 @@ ghost use Rattle.terms.specs.Reader.{done, fits, name_by, cell_by, head_by, args
 
 use parts::{CellNo, Limits, NameNo, Side, SymbolNo};
 use sheet::Sheet;
-use words::Found;
+use words::Agent;
 
-// What was read: the place after it and its code; or nothing that may stand there.
+// A text, and the agents that its words are looked up among.
 #[derive(Clone, Copy)]
-pub enum Got {
-    Read { next: usize, code: u16 },
-    Wrong,
+pub struct Source<'a> {
+    pub text: &'a [u8],
+    pub agents: &'a [u8],
 }
 
-// The head of a term: one that takes no arguments, with its code; a cell that takes one and so many more; or none.
+// What was read: the place after it and its code.
+#[derive(Clone, Copy)]
+pub struct Read {
+    pub next: usize,
+    pub code: u16,
+}
+
+// The head of a term: one that takes no arguments, with its code; or a cell that takes one and so many more.
 #[derive(Clone, Copy)]
 pub enum Head {
     Plain { code: u16 },
     Takes { cell: CellNo, more: u16 },
-    Wrong,
 }
 
-// The code of the term that a field spells; or the field is wrong.
-#[derive(Clone, Copy)]
-pub enum Field {
-    Code(u16),
-    Wrong,
-}
-
+// Two places of a text (`at` and `end`, `from` and `to`) stay two arguments here and above: each call goes on with others, so a struct of both
+// would be taken apart at once.
 // Whether one name more can be entered: there is room, and its place and its length are in bounds.
+#[tactic(auto, using(crate::proofs::Beneath::Heads::fits_laws))]
 fn name_fits(n: u16, at: usize, long: usize) -> bool
     ensures { result ≡ fits n at long }
 {
-    if Limits::NET_NAMES <= (n as usize) {
-        return false;
-    }
-    if Limits::TEXT <= at {
-        return false;
-    }
-    long <= Limits::IDENTIFIER
+    usize::from(n) < Limits::NET_NAMES && at < Limits::TEXT && long <= Limits::IDENTIFIER
 }
 
 // The name that stands from `at` to `end`: its number, or the next one, under which it is entered.
-fn read_name(text: &[u8], at: usize, end: usize, sheet: &mut [u16; Sheet::SIZE]) -> Head
+#[tactic(auto, using(crate::proofs::Beneath::Heads::name_laws))]
+fn read_name(
+    source: Source<'_>,
+    at: usize,
+    end: usize,
+    sheet: &mut [u16; Sheet::SIZE],
+) -> Option<Head>
     requires { at ≤ end }
-    ensures { done result (view sheet.new) ≡ name_by text.now at end (view sheet.old) }
+    ensures { done result (view sheet.new) ≡ name_by source.entry.text.now at end (view sheet.old) }
 {
     let n = sheet::names(sheet);
-    if Limits::NET_NAMES < (n as usize) {
-        return Head::Wrong;
+    if Limits::NET_NAMES < usize::from(n) {
+        return None;
     }
     let long = end - at;
-    let word = words::part(text, at, long);
-    let k = words::find_name(text, sheet, n, word);
-    if k < n {
-        return Head::Plain {
-            code: parts::encode(Side::Name(NameNo(k))),
-        };
-    }
-    if name_fits(n, at, long) {
+    let word = words::part(source.text, at, long);
+    let k = words::find_name(source.text, sheet, n, word);
+    if k == n {
+        if !name_fits(n, at, long) {
+            return None;
+        }
         sheet::enter_name(sheet, NameNo(n), at as u16, long as u16);
-        return Head::Plain {
-            code: parts::encode(Side::Name(NameNo(n))),
-        };
     }
-    Head::Wrong
+    Some(Head::Plain {
+        code: parts::encode(Side::Name(NameNo(k))),
+    })
 }
 
 // A cell of an agent: the next number, before those of its arguments.
-fn read_cell(symbol: SymbolNo, arity: u16, sheet: &mut [u16; Sheet::SIZE]) -> Head
+#[tactic(auto, using(crate::proofs::Beneath::Heads::cell_laws))]
+fn read_cell(symbol: SymbolNo, arity: u16, sheet: &mut [u16; Sheet::SIZE]) -> Option<Head>
     requires { symbol.0 < symbols_max }
     ensures { done result (view sheet.new) ≡ cell_by symbol.0 arity (view sheet.old) }
 {
     let c = sheet::cells(sheet);
-    if Limits::NET_CELLS <= (c as usize) {
-        return Head::Wrong;
+    if Limits::NET_CELLS <= usize::from(c) || Limits::ARITY < usize::from(arity) {
+        return None;
     }
-    if Limits::ARITY < (arity as usize) {
-        return Head::Wrong;
-    }
-    sheet::open_cell(sheet, CellNo(c), symbol);
+    let cell = CellNo(c);
+    sheet::open_cell(sheet, cell, symbol);
     if arity == 0 {
-        return Head::Plain {
-            code: parts::encode(Side::Cell(CellNo(c))),
-        };
+        return Some(Head::Plain {
+            code: parts::encode(Side::Cell(cell)),
+        });
     }
-    Head::Takes {
-        cell: CellNo(c),
+    Some(Head::Takes {
+        cell,
         more: arity - 1,
-    }
+    })
 }
 
 // The head that stands from `at` to `end`: a declared identifier is an agent, any other is a name.
+#[tactic(auto, using(crate::proofs::Beneath::Heads::head_laws))]
 fn read_head(
-    text: &[u8],
+    source: Source<'_>,
     at: usize,
     end: usize,
-    agents: &[u8],
     sheet: &mut [u16; Sheet::SIZE],
-) -> Head
+) -> Option<Head>
     requires { at ≤ end }
-    ensures { done result (view sheet.new) ≡ head_by text.now (agents_of agents.now) at end (view sheet.old) }
+    ensures { done result (view sheet.new) ≡ head_by source.entry.text.now (agents_of source.entry.agents.now) at end (view sheet.old) }
 {
-    let word = words::part(text, at, end - at);
-    match words::find_agent(agents, word) {
-        Found::Nothing => read_name(text, at, end, sheet),
-        Found::Agent { symbol, arity } => read_cell(symbol, arity, sheet),
+    let word = words::part(source.text, at, end - at);
+    match words::find_agent(source.agents, word) {
+        None => read_name(source, at, end, sheet),
+        Some(Agent { symbol, arity }) => read_cell(symbol, arity, sheet),
     }
 }
 
 // A term of at most `levels` levels.
+#[tactic(auto, using(crate::proofs::Beneath::Ways::term_laws))]
 #[cycle(read_args_read_term)]
 pub fn read_term(
-    text: &[u8],
+    source: Source<'_>,
     at: usize,
     levels: usize,
-    agents: &[u8],
     sheet: &mut [u16; Sheet::SIZE],
-) -> Got
-    ensures { done result (view sheet.new) ≡ term_by text.now (agents_of agents.now) levels at (view sheet.old) }
+) -> Option<Read>
+    ensures { done result (view sheet.new) ≡ term_by source.entry.text.now (agents_of source.entry.agents.now) levels at (view sheet.old) }
 {
     if levels == 0 {
-        return Got::Wrong;
+        return None;
     }
-    let end = scan::words::word_end(text, at);
+    let end = scan::words::word_end(source.text, at);
     if end == at {
-        return Got::Wrong;
+        return None;
     }
-    let b = words::byte_at(text, end);
-    match read_head(text, at, end, agents, sheet) {
-        Head::Wrong => Got::Wrong,
-        Head::Plain { code } => {
-            if b == b'(' {
-                return Got::Wrong;
-            }
-            Got::Read {
-                next: end,
-                code: code,
-            }
+    let open = words::byte_at(source.text, end) == b'(';
+    match read_head(source, at, end, sheet)? {
+        Head::Plain { code } if !open => Some(Read { next: end, code }),
+        Head::Takes { cell, more } if open => {
+            read_args(source, end + 1, levels - 1, cell, 0, more, sheet)
         }
-        Head::Takes { cell, more } => {
-            if b == b'(' {
-                return read_args(text, end + 1, levels - 1, cell, 0, more, agents, sheet);
-            }
-            Got::Wrong
-        }
+        _ => None,
     }
 }
 
 // Argument k of a cell and so many more, parted by commas, and the bracket after them.
+#[tactic(auto, using(crate::proofs::Beneath::Ways::args_laws))]
 #[cycle(read_args_read_term)]
 fn read_args(
-    text: &[u8],
+    source: Source<'_>,
     at: usize,
     levels: usize,
     cell: CellNo,
     k: u16,
     more: u16,
-    agents: &[u8],
     sheet: &mut [u16; Sheet::SIZE],
-) -> Got
+) -> Option<Read>
     requires { (cell.0 < net_cells_max) × (k + more < arity_max) }
-    ensures { done result (view sheet.new) ≡ args_by text.now (term_by text.now (agents_of agents.now) levels) more cell.0 k at (view sheet.old) }
+    ensures { done result (view sheet.new) ≡ args_by source.entry.text.now (term_by source.entry.text.now (agents_of source.entry.agents.now) levels) more cell.0 k at (view sheet.old) }
 {
-    match read_term(text, at, levels, agents, sheet) {
-        Got::Wrong => Got::Wrong,
-        Got::Read { next, code } => {
-            sheet::set_argument(sheet, cell, k, code);
-            let b = words::byte_at(text, next);
-            if more == 0 {
-                if b == b')' {
-                    return Got::Read {
-                        next: next + 1,
-                        code: parts::encode(Side::Cell(cell)),
-                    };
-                }
-                return Got::Wrong;
-            }
-            if b == b',' {
-                return read_args(text, next + 1, levels, cell, k + 1, more - 1, agents, sheet);
-            }
-            Got::Wrong
-        }
+    let Read { next, code } = read_term(source, at, levels, sheet)?;
+    sheet::set_argument(sheet, cell, k, code);
+    match words::byte_at(source.text, next) {
+        b')' if more == 0 => Some(Read {
+            next: next + 1,
+            code: parts::encode(Side::Cell(cell)),
+        }),
+        b',' if more > 0 => { read_args(source, next + 1, levels, cell, k + 1, more - 1, sheet) }
+        _ => None,
     }
 }
 
 // The term that the field from `from` to `to` spells: its cells and new names go on the sheet.
+#[tactic(auto, using(crate::proofs::Beneath::Ways::field_laws))]
 pub fn read_field(
-    text: &[u8],
+    source: Source<'_>,
     from: usize,
     to: usize,
-    agents: &[u8],
     sheet: &mut [u16; Sheet::SIZE],
-) -> Field
-    ensures { done result (view sheet.new) ≡ field_by text.now (agents_of agents.now) from to (view sheet.old) }
+) -> Option<u16>
+    ensures { done result (view sheet.new) ≡ field_by source.entry.text.now (agents_of source.entry.agents.now) from to (view sheet.old) }
 {
-    match read_term(text, from, Limits::LEVEL, agents, sheet) {
-        Got::Wrong => Field::Wrong,
-        Got::Read { next, code } => {
-            if next == to {
-                return Field::Code(code);
-            }
-            Field::Wrong
-        }
-    }
+    let Read { next, code } = read_term(source, from, Limits::LEVEL, sheet)?;
+    if next == to { Some(code) } else { None }
 }

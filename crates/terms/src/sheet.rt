@@ -32,6 +32,7 @@ pub enum Part {
     Places,
 }
 
+// Its own function beside `count_place` of the state, which is of the same form: the places are those of another layout.
 fn start(p: Part) -> usize
     ensures { result ≡ begins p }
 {
@@ -42,30 +43,25 @@ fn start(p: Part) -> usize
     }
 }
 
+#[tactic(auto, using(crate::proofs::Parts::fetch_way))]
 fn read(sheet: &[u16; Sheet::SIZE], p: Part, i: usize) -> u16
     requires { i < size p }
     ensures { result ≡ get_or (words p (view sheet.now)) i 0 }
 {
-    let a = start(p);
-    sheet[a + i]
+    sheet[start(p) + i]
 }
 
+#[tactic(auto, using(crate::proofs::Parts::store_way))]
 fn write(sheet: &mut [u16; Sheet::SIZE], p: Part, i: usize, v: u16)
     requires { i < size p }
     ensures { view sheet.new ≡ stored p i v (view sheet.old) }
 {
-    let a = start(p);
-    sheet[a + i] = v;
+    sheet[start(p) + i] = v;
 }
 
-// The length of a lent sheet, which a proof learns so.
-fn len_of(s: &[u16]) -> usize
-    ensures { result ≡ length s.now }
-{
-    s.len()
-}
-
-// How many cells the sheet has.
+// How many cells the sheet has. The two counts keep a read and a store each: these are one line, and their contracts
+// speak of two fields.
+#[tactic(auto, unfolding(crate::specs::Sheet::view))]
 pub fn cells(sheet: &[u16; Sheet::SIZE]) -> u16
     ensures { result ≡ (view sheet.now).cells }
 {
@@ -73,33 +69,34 @@ pub fn cells(sheet: &[u16; Sheet::SIZE]) -> u16
 }
 
 // How many names the sheet has.
+#[tactic(auto, unfolding(crate::specs::Sheet::view))]
 pub fn names(sheet: &[u16; Sheet::SIZE]) -> u16
     ensures { result ≡ (view sheet.now).names }
 {
     sheet[Sheet::NAMES_AT]
 }
 
+#[tactic(auto, using(crate::proofs::Parts::view_cells))]
 fn set_cells(sheet: &mut [u16; Sheet::SIZE], n: u16)
     ensures { view sheet.new ≡ counted_cells n (view sheet.old) }
 {
-    len_of(sheet);
     sheet[Sheet::CELLS_AT] = n;
 }
 
+#[tactic(auto, using(crate::proofs::Parts::view_names))]
 pub fn set_names(sheet: &mut [u16; Sheet::SIZE], n: u16)
     ensures { view sheet.new ≡ counted_names n (view sheet.old) }
 {
-    len_of(sheet);
     sheet[Sheet::NAMES_AT] = n;
 }
 
+// A number's bound stands in the clauses: the sheet and the state take the same `CellNo` and `NameNo`, each up to a size of its own.
 // The word of a cell's symbol: its number + 1.
 pub fn symbol_word(sheet: &[u16; Sheet::SIZE], c: CellNo) -> u16
     requires { c.0 < net_cells_max }
     ensures { result ≡ get_or (view sheet.now).symbols c.0 0 }
 {
-    let i = c.0 as usize;
-    read(sheet, Part::Symbols, i)
+    read(sheet, Part::Symbols, usize::from(c.0))
 }
 
 // The code of argument k of a cell.
@@ -107,15 +104,16 @@ pub fn argument(sheet: &[u16; Sheet::SIZE], c: CellNo, k: u16) -> u16
     requires { (c.0 < net_cells_max) × (k < arity_max) }
     ensures { result ≡ get_or (view sheet.now).arguments (arity_max * c.0 + k) 0 }
 {
-    let i = Limits::ARITY * (c.0 as usize) + (k as usize);
+    let i = Limits::ARITY * usize::from(c.0) + usize::from(k);
     read(sheet, Part::Arguments, i)
 }
 
+#[tactic(auto, unfolding(crate::specs::Sheet::argued))]
 pub fn set_argument(sheet: &mut [u16; Sheet::SIZE], c: CellNo, k: u16, v: u16)
     requires { (c.0 < net_cells_max) × (k < arity_max) }
     ensures { view sheet.new ≡ argued c.0 k v (view sheet.old) }
 {
-    let i = Limits::ARITY * (c.0 as usize) + (k as usize);
+    let i = Limits::ARITY * usize::from(c.0) + usize::from(k);
     write(sheet, Part::Arguments, i, v);
 }
 
@@ -124,7 +122,7 @@ pub fn place(sheet: &[u16; Sheet::SIZE], x: NameNo) -> u16
     requires { x.0 < net_names_max }
     ensures { result ≡ get_or (view sheet.now).places (2 * x.0) 0 }
 {
-    let i = 2 * (x.0 as usize);
+    let i = 2 * usize::from(x.0);
     read(sheet, Part::Places, i)
 }
 
@@ -133,26 +131,28 @@ pub fn long(sheet: &[u16; Sheet::SIZE], x: NameNo) -> u16
     requires { x.0 < net_names_max }
     ensures { result ≡ get_or (view sheet.now).places (2 * x.0 + 1) 0 }
 {
-    let i = 2 * (x.0 as usize) + 1;
+    let i = 2 * usize::from(x.0) + 1;
     read(sheet, Part::Places, i)
 }
 
 // A cell of this symbol, the next one: the cells are one more.
+#[tactic(auto, unfolding(crate::specs::Sheet::opened))]
 pub fn open_cell(sheet: &mut [u16; Sheet::SIZE], c: CellNo, s: SymbolNo)
     requires { (c.0 < net_cells_max) × (s.0 < symbols_max) }
     ensures { view sheet.new ≡ opened c.0 s.0 (view sheet.old) }
 {
-    let i = c.0 as usize;
+    let i = usize::from(c.0);
     write(sheet, Part::Symbols, i, s.0 + 1);
     set_cells(sheet, c.0 + 1);
 }
 
 // A name that stands at `at` with n bytes, the next one: the names are one more.
+#[tactic(auto, unfolding(crate::specs::Sheet::entered))]
 pub fn enter_name(sheet: &mut [u16; Sheet::SIZE], x: NameNo, at: u16, n: u16)
     requires { x.0 < net_names_max }
     ensures { view sheet.new ≡ entered x.0 at n (view sheet.old) }
 {
-    let i = 2 * (x.0 as usize);
+    let i = 2 * usize::from(x.0);
     write(sheet, Part::Places, i, at);
     write(sheet, Part::Places, i + 1, n);
     set_names(sheet, x.0 + 1);

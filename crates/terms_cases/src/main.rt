@@ -5,7 +5,7 @@ ghost use Rattle.std.specs.Prelude.{◌<◌};
 
 use parts::{CellNo, NameNo};
 use std::io;
-use terms::Field;
+use terms::Source;
 use terms::sheet::Sheet;
 
 fn number(rt: &impl Print, n: u16) -> io::Result<()> {
@@ -14,18 +14,13 @@ fn number(rt: &impl Print, n: u16) -> io::Result<()> {
 
 fn agents() -> [u8; Sheet::AGENTS] {
     let mut a = [0; Sheet::AGENTS];
-    a[0] = b'a';
-    a[1] = b'd';
-    a[2] = b'd';
+    a[..3].copy_from_slice(b"add");
     a[16] = 3;
     a[17] = b'S';
     a[33] = 2;
     a[34] = b'Z';
     a[50] = 1;
-    a[51] = b'f';
-    a[52] = b'o';
-    a[53] = b'u';
-    a[54] = b'r';
+    a[51..55].copy_from_slice(b"four");
     a[67] = 5;
     a
 }
@@ -66,9 +61,10 @@ fn show(
     sheet: &mut [u16; Sheet::SIZE],
 ) -> io::Result<()> {
     let a = agents();
-    match terms::read_field(text, from, to, &a, sheet) {
-        Field::Wrong => print!(rt; "wrong")?,
-        Field::Code(code) => print!(rt; "code {code}")?,
+    let source = Source { text, agents: &a };
+    match terms::read_field(source, from, to, sheet) {
+        None => print!(rt; "wrong")?,
+        Some(code) => print!(rt; "code {code}")?,
     }
     number(rt, terms::sheet::cells(sheet))?;
     number(rt, terms::sheet::names(sheet))?;

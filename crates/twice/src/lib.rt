@@ -1,18 +1,17 @@
 // "each name occurs exactly twice": how often a name stands in a net that was read, and the line of the earliest that stands otherwise.
 #![tactic(auto)]
 
-ghost use Rattle.std.specs.Prelude.{◌≡◌, not, ◌+◌, ◌*◌, ◌<◌, ◌≤◌, eqb, get_or};
-ghost use Rattle.parts.specs.Limits.{arity_max, face_max, net_cells_max, net_names_max, net_equations_max};
+ghost use Rattle.std.specs.Prelude.{position, ltb, ◌≡◌, ◌+◌, ◌*◌, ◌<◌, ◌≤◌, get_or};
+ghost use Rattle.parts.specs.Limits.{arity_max, face_max, net_cells_max, net_equations_max};
 ghost use Rattle.parts.specs.Sides.{name, side};
 ghost use Rattle.texts.specs.TableTest.{tally, same_side, args_all};
-ghost use Rattle.texts.specs.Linear.{one};
 ghost use Rattle.table.specs.Layout.{agents_in};
 ghost use Rattle.table.specs.Lists.{tab};
 ghost use Rattle.terms.specs.Sheet as Sheets;
-ghost use Rattle.loading.specs.OnSheet.{width_on, cell_on, cells_on, face_on, Lent};
-ghost use Rattle.twice.specs.Counting.{Found, args_on, stands_on, loose_on, first_loose, passed};
+ghost use Rattle.loading.specs.OnSheet.{cells_on, face_on};
+ghost use Rattle.twice.specs.Counting.{Found, args_on, loose_on, first_loose, passed};
 
-use loading::{Codes, code_at, width_on};
+use loading::{Codes, LentTable, width_on};
 use parts::{CellNo, Limits};
 use terms::sheet;
 use terms::sheet::Sheet;
@@ -25,28 +24,21 @@ impl Marks {
     pub const SIZE: usize = 1 + Limits::NET_EQUATIONS;
 }
 
-// One if a code is that of name x, none else.
-fn one_if_name(word: u16, x: u16) -> usize
-    ensures { Found result (one (same_side (name x) (side word))) 1 }
+// Whether a code is that of name x.
+fn is_name(word: u16, x: u16) -> bool
+    ensures { result ≡ same_side (name x) (side word) }
 {
-    if (word as usize) == 2 * (x as usize) {
-        return 1;
-    }
-    0
+    usize::from(word) == 2 * usize::from(x)
 }
 
 // Among the first n codes.
+// The codes are one array with room for the largest net, of which n are read so far: here, in crates/loading and in crates/nets the clauses name
+// that array, so it goes whole, with n.
 fn times_in_codes(codes: &[u16; Codes::SIZE], n: usize, x: u16) -> usize
     requires { n ≤ face_max + 2 * net_equations_max }
     ensures { Found result (tally (same_side (name x)) (face_on codes.now n)) n }
 {
-    let mut found: usize = 0;
-    let mut i: usize = 0;
-    while i < n {
-        found += one_if_name(code_at(codes, i), x);
-        i += 1;
-    }
-    found
+    codes[..n].iter().filter(|code| is_name(**code, x)).count()
 }
 
 // Among the first n arguments of a cell.
@@ -55,70 +47,64 @@ fn times_in_cell(sheet: &[u16; Sheet::SIZE], c: CellNo, n: u16, x: u16) -> usize
     ensures { Found result (tally (same_side (name x)) (args_on (Sheets.view sheet.now) c.0 n)) arity_max }
 {
     let mut found: usize = 0;
-    let mut k: u16 = 0;
-    while k < n {
-        found += one_if_name(sheet::argument(sheet, c, k), x);
-        k += 1;
+    for k in 0..n {
+        found += usize::from(is_name(sheet::argument(sheet, c, k), x));
     }
     found
 }
 
 // Among the arguments of all cells.
-fn times_in_cells(table: &[u8; Limits::TABLE], sheet: &[u16; Sheet::SIZE], x: u16) -> usize
-    requires { Lent table.now × ((Sheets.view sheet.now).cells ≤ net_cells_max) }
-    ensures { Found result (tally (same_side (name x)) (args_all (cells_on (agents_in table.now) (Sheets.view sheet.now)))) (arity_max * net_cells_max) }
+fn times_in_cells(table: LentTable<'_>, sheet: &[u16; Sheet::SIZE], x: u16) -> usize
+    requires { (Sheets.view sheet.now).cells ≤ net_cells_max }
+    ensures { Found result (tally (same_side (name x)) (args_all (cells_on (agents_in table.entry.bytes.now) (Sheets.view sheet.now)))) (arity_max * net_cells_max) }
 {
-    let n = sheet::cells(sheet);
     let mut found: usize = 0;
-    let mut c: u16 = 0;
-    while c < n {
+    for c in 0..sheet::cells(sheet) {
         let w = width_on(table, sheet, CellNo(c));
         found += times_in_cell(sheet, CellNo(c), w, x);
-        c += 1;
     }
     found
 }
 
 // Whether name x stands another number of times than two.
+// `sheet` and `codes` are lent apart, since the sheet is read by number and the codes by place.
 fn loose(
-    table: &[u8; Limits::TABLE],
+    table: LentTable<'_>,
     sheet: &[u16; Sheet::SIZE],
     codes: &[u16; Codes::SIZE],
     n: usize,
     x: u16,
 ) -> bool
-    requires { Lent table.now × ((Sheets.view sheet.now).cells ≤ net_cells_max) × (n ≤ face_max + 2 * net_equations_max) }
-    ensures { result ≡ loose_on (agents_in table.now) (Sheets.view sheet.now) codes.now n x }
+    requires { ((Sheets.view sheet.now).cells ≤ net_cells_max) × (n ≤ face_max + 2 * net_equations_max) }
+    ensures { result ≡ loose_on (agents_in table.entry.bytes.now) (Sheets.view sheet.now) codes.now n x }
 {
     times_in_codes(codes, n, x) + times_in_cells(table, sheet, x) != 2
 }
 
-// The first such name, or the number of names.
+// The first such name, or the number of names: no Option, since `loose_line_lem` of specs/Meaning says the line by that number.
 pub fn first_loose(
-    table: &[u8; Limits::TABLE],
+    table: LentTable<'_>,
     sheet: &[u16; Sheet::SIZE],
     codes: &[u16; Codes::SIZE],
     n: usize,
 ) -> u16
-    requires { Lent table.now × ((Sheets.view sheet.now).cells ≤ net_cells_max) × (n ≤ face_max + 2 * net_equations_max) }
-    ensures { result ≡ first_loose (loose_on (agents_in table.now) (Sheets.view sheet.now) codes.now n) 0 (Sheets.view sheet.now).names }
+    requires { ((Sheets.view sheet.now).cells ≤ net_cells_max) × (n ≤ face_max + 2 * net_equations_max) }
+    ensures { result ≡ first_loose (loose_on (agents_in table.entry.bytes.now) (Sheets.view sheet.now) codes.now n) 0 (Sheets.view sheet.now).names }
 {
     let most = sheet::names(sheet);
-    let mut x: u16 = 0;
-    while x < most {
+    for x in 0..most {
         if loose(table, sheet, codes, n, x) {
             return x;
         }
-        x += 1;
     }
-    x
+    most
 }
 
-fn mark_at(marks: &[u16; Marks::SIZE], i: usize) -> u16
-    requires { i < 1 + net_equations_max }
-    ensures { result ≡ get_or marks.now i 0 }
+// Where the first mark is that passes x.
+fn first_past(marks: &[u16], x: u16) -> Option<usize>
+    ensures { result ≡ position (ltb x) marks.now }
 {
-    marks[i]
+    marks.iter().position(|mark| x < *mark)
 }
 
 // How many of the first n marks do not pass x: the lines before the one on which name x first stands.
@@ -126,12 +112,5 @@ pub fn lines_before(marks: &[u16; Marks::SIZE], n: usize, x: u16) -> usize
     requires { n ≤ 1 + net_equations_max }
     ensures { result ≡ passed x (tab n (λ k. get_or marks.now k 0)) }
 {
-    let mut i: usize = 0;
-    while i < n {
-        if x < mark_at(marks, i) {
-            return i;
-        }
-        i += 1;
-    }
-    i
+    first_past(&marks[..n], x).unwrap_or(n)
 }

@@ -1,14 +1,15 @@
 -- Why what is kept stays right when the word of a name is new, and the laws of the two that ask for a loop.
 use Prim.Native.Nat.{ℕ, suc, ◌+◌, ◌-◌, ◌<◌, ◌≤◌, min}
-use mathlib.Core.Path.{◌≡◌, refl, ap, sym}
-use mathlib.Core.Bool.{Bool, true, false}
+use mathlib.Core.Path.{◌≡◌, refl, ap, sym, ◌∙◌}
+use mathlib.Core.Bool.{Bool, true, false, not}
+use mir.Val.{bool_byte}
 use mathlib.Core.List.{List, [], ◌∷◌}
 use native.Mathlib.Decide.{ℕ_discrete}
 use native.Mathlib.Omega.{arith}
 use lib.Dec.{eqb}
 use lib.ListN.{length, get_or, set}
 use lib.Seq.{get_or-set_same, get_or-set_other}
-use borrow.Author.Tests.{eq-eqb, ne_eqb}
+use borrow.Author.Tests.{ne_eqb}
 use Rattle.parts.specs.Limits.{names_max}
 use Rattle.parts.specs.declared.NameNo.{NameNo}
 use Rattle.parts.specs.declared.CellNo.{CellNo}
@@ -62,9 +63,9 @@ right_named s k x v f h r =
       cells = r.cells;
       names = omega (arith, used-set s.names x v b, used_at s.names x, r.names);
       cells_taken = r.cells_taken;
-      names_taken = taken-below s.names k.lowname x v b r.names_taken;
+      names_taken = taken-below s.names k.low_name x v b r.names_taken;
       cells_fit = r.cells_fit;
-      names_fit = low_fits k.lowname x v h r.names_fit;
+      names_fit = low_fits k.low_name x v h r.names_fit;
     }
 
 pub set_way : (s s₁ : St) (k r : Kept) (x : NameNo) (old v : ℕ) → Wirable s → x.0 < names_max → Right k s → old ≡ get_or s.names x.0 0
@@ -72,32 +73,18 @@ pub set_way : (s s₁ : St) (k r : Kept) (x : NameNo) (old v : ℕ) → Wirable 
 set_way s s₁ k r x old v f h g e p q =
     record { is = p; right = rw (p, q, e) (right_named s k x.0 v f h g) }
 
--- the new low number
-pub low_new : (low x w r : ℕ) → w ≡ 0 → x < low → r ≡ x → r ≡ lowered low x w
-low_new low x w r e h q = rw e (omega arith)
-
-pub low_old : (low x w r : ℕ) → w ≡ 0 → low ≤ x → r ≡ low → r ≡ lowered low x w
-low_old low x w r e h q = rw e (omega arith)
-
-pub low-kept : (low x w r : ℕ) → ¬ (w ≡ 0) → r ≡ low → r ≡ lowered low x w
-low-kept low x ℕ.zero r h q = absurd (h refl)
-low-kept low x (ℕ.suc w) r h q = q
-
 -- a loop asked for
 module _ (s : St) where
-  pub same_loop : (x y : NameNo) → x.0 ≡ y.0 → true ≡ loop_here (Name x) (Name y) s
+  pub same_loop : (x y : NameNo) (t : Bool) → t ≡ eqb x.0 y.0 → t ≡ true → t ≡ loop_here (Name x) (Name y) s
   unfolding loop_here
-  same_loop x y e = rw (eq-eqb _ _ e)
+  same_loop x y t e h = rw (sym e ∙ h) h
 
-  pub joined-loop : (x y : NameNo) (w b : ℕ) (t : Bool) → ¬ (x.0 ≡ y.0) → w ≡ get_or s.names x.0 0 → b ≡ bound (Name y) → t ≡ eqb w b
-      → t ≡ loop_here (Name x) (Name y) s
+  pub joined-loop : (x y : NameNo) (w b : ℕ) (t : Bool) → t ≡ eqb x.0 y.0 → t ≡ false → w ≡ get_or s.names x.0 0 → b ≡ bound (Name y)
+      → eqb w b ≡ loop_here (Name x) (Name y) s
   unfolding loop_here
-  joined-loop x y w b t h e f p = rw (ne_eqb _ _ h, ← e, ← f) p
+  joined-loop x y w b t d h e f = rw (sym d ∙ h, ← e, ← f)
 
   module _ (l r : Side) where
-    pub names-loop : (x y : NameNo) (t : Bool) → l ≡ Name x → r ≡ Name y → t ≡ loop_here (Name x) (Name y) s → t ≡ loop_here l r s
-    names-loop x y t e f p = rw (e, f) p
-
     pub cell-no_loop : (x : NameNo) (c : CellNo) → l ≡ Name x → r ≡ Cell c → false ≡ loop_here l r s
     unfolding loop_here
     cell-no_loop x c e f = rw (e, f)
@@ -106,7 +93,12 @@ module _ (s : St) where
     unfolding loop_here
     left_no_loop c e = rw e
 
-pub rename_way : (k : Kept) (x : NameNo) (old word gone come low : ℕ) → gone ≡ min 1 old → come ≡ min 1 word → low ≡ lowered k.lowname x.0 word
-    → ◌≡◌ {A = Kept} (record { cells = k.cells; names = k.names - gone + come; lowcell = k.lowcell; lowname = low }) (renamed k x.0 old word)
+one_used : (w : ℕ) → bool_byte (not (eqb w 0)) ≡ min 1 w
+one_used ℕ.zero = refl
+one_used (ℕ.suc w) = rw (ne_eqb (suc w) 0 (λ e. omega arith)) (omega arith)
+
+pub rename_way : (k : Kept) (x : NameNo) (old word gone come low : ℕ) → gone ≡ bool_byte (not (eqb old 0)) → come ≡ bool_byte (not (eqb word 0))
+    → low ≡ lowered k.low_name x.0 word
+    → ◌≡◌ {A = Kept} (record { cells = k.cells; names = k.names - gone + come; low_cell = k.low_cell; low_name = low }) (renamed k x.0 old word)
 unfolding renamed
-rename_way k x old word gone come low e f g = rw (e, f, g)
+rename_way k x old word gone come low e f g = rw (e ∙ one_used old, f ∙ one_used word, g)

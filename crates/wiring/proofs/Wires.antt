@@ -1,14 +1,12 @@
 -- One law for each way out of the wiring functions, and what dropping keeps.
 use Prim.Native.Nat.{ℕ, zero, suc, ◌+◌, ◌-◌, ◌*◌, ◌<◌, ◌≤◌}
-use mathlib.Core.Path.{◌≡◌, ap, subst, ◌∙◌}
+use mathlib.Core.Path.{◌≡◌, ap, sym, ◌∙◌}
 use mathlib.Core.Bool.{Bool, true, false}
 use mathlib.Core.List.{List, [], ◌∷◌}
 use native.Mathlib.Omega.{arith}
-use lib.Dec.{ltb}
+use lib.Dec.{ltb, eqb}
 use lib.ListN.{get_or, set, length-set}
-use borrow.Author.Tests.{lt-ltb, le-ltb, eq-eqb, ne_eqb}
-use mir.Syntax.{w16, w32}
-use mir.Val.{Fits}
+use borrow.Author.Tests.{lt-ltb, le-ltb}
 use Rattle.parts.specs.Limits.{names_max, cells_max}
 use Rattle.parts.specs.Sides.{Pair, code, side}
 use Rattle.parts.specs.Codes.{code-side}
@@ -21,13 +19,13 @@ use Rattle.parts.specs.declared.Side.TheVariants.{Name, Cell}
 use Rattle.model.specs.State.{St}
 use Rattle.model.specs.Stepped.{fasten}
 use Rattle.state.specs.Places.{stored, looped}
-use Rattle.state.specs.Moves.{put_on, RoomOn}
+use Rattle.state.specs.Moves.{put_on}
 use Rattle.state.specs.declared.Part.TheVariants.{Names}
 use Rattle.state.specs.declared.Pile.TheVariants.{Waits}
 use Rattle.kept.specs.Right.{Right}
 use Rattle.kept.specs.declared.Kept.{Kept}
 use Rattle.wiring.specs.Keeping.{Came}
-use Rattle.wiring.proofs.Modelled.{counts, wire_is}
+use Rattle.wiring.proofs.Modelled.{wire_is}
 use Rattle.wiring.specs.Wiring.{pick, bound, bonds_end, Wirable, Countable, Ready, end_of, loosened, dropped, fastened, wired}
 
 -- the state meant, written otherwise
@@ -38,15 +36,9 @@ code-small : (s : Side) → number s < names_max → code (plain s) < 2 * names_
 code-small (Name x) h = omega arith
 code-small (Cell c) h = omega arith
 
-pub bound-fits : (s : Side) (w : ℕ) → number s < names_max → w ≡ code (plain s) → Fits w16 (w + 2)
-bound-fits s w h e = omega (arith, code-small s h)
-
 -- a side's number, in the arm of a match
 pub name-small : {t : Side} {x : NameNo} → t ≡ Name x → number t < names_max → x.0 < names_max
 name-small e h = omega (arith, ap number e)
-
-pub cell-small : {t : Side} {c : CellNo} → t ≡ Cell c → number t < names_max → c.0 < cells_max
-cell-small e h = omega (arith, ap number e)
 
 -- the side that a name's word holds
 number-code : (s : Side) (k : ℕ) → code (plain s) < 2 * k → number s < k
@@ -116,23 +108,16 @@ right_put s k q f =
       names_fit = f.names_fit;
     }
 
-pub loop-fits : (s : St) (x y : NameNo) (n : ℕ) → Countable (Name x) (Name y) s → x.0 ≡ y.0 → n ≡ s.loops → Fits w32 (n + 1)
-loop-fits s x y n f h e = omega (arith, counts x y s h f.can)
-
-pub fasten-loop : (s s₁ s₂ : St) (x y : NameNo) (k : Kept) (n : ℕ) → x.0 ≡ y.0 → n ≡ s.loops → Came s₁ k (stored Names x.0 0 s)
+pub fasten-loop : (s s₁ s₂ : St) (x y : NameNo) (k : Kept) (n : ℕ) (t : Bool) → t ≡ eqb x.0 y.0 → t ≡ true → n ≡ s.loops → Came s₁ k (stored Names x.0 0 s)
     → s₂ ≡ looped (n + 1) s₁ → Came s₂ k (fastened (Name x) (Name y) s)
 unfolding fastened
-fasten-loop s s₁ s₂ x y k n h e p q =
-    record { is = rw (eq-eqb _ _ h, q, p.is, e); right = rw q (right_looped s₁ k (n + 1) p.right) }
+fasten-loop s s₁ s₂ x y k n t d h e p q =
+    record { is = rw (sym d ∙ h, q, p.is, e); right = rw q (right_looped s₁ k (n + 1) p.right) }
 
-pub fasten-join : (s s₁ s₂ : St) (x y : NameNo) (k₁ k₂ : Kept) (a b : ℕ) → (x.0 ≡ y.0 → ⊥) → a ≡ bound (Name y) → b ≡ bound (Name x)
+pub fasten-join : (s s₁ s₂ : St) (x y : NameNo) (k₁ k₂ : Kept) (a b : ℕ) (t : Bool) → t ≡ eqb x.0 y.0 → t ≡ false → a ≡ bound (Name y) → b ≡ bound (Name x)
     → Came s₁ k₁ (stored Names x.0 a s) → Came s₂ k₂ (stored Names y.0 b s₁) → Came s₂ k₂ (fastened (Name x) (Name y) s)
 unfolding fastened
-fasten-join s s₁ s₂ x y k₁ k₂ a b h ea eb p q = came_as q (rw (ne_eqb _ _ h, p.is, ea, eb))
-
-pub tie_way : (s s₁ : St) (x : NameNo) (c : CellNo) (k : Kept) (w : ℕ) → w ≡ bound (Cell c) → Came s₁ k (stored Names x.0 w s)
-    → Came s₁ k (stored Names x.0 (bound (Cell c)) s)
-tie_way s s₁ x c k w e p = came_as p (rw e)
+fasten-join s s₁ s₂ x y k₁ k₂ a b t d h ea eb p q = came_as q (rw (sym d ∙ h, p.is, ea, eb))
 
 module _ (s s₁ : St) (l r : Side) (k : Kept) where
   pub fasten-names : (x y : NameNo) → l ≡ Name x → r ≡ Name y → Came s₁ k (fastened (Name x) (Name y) s) → Came s₁ k (fastened l r s)
@@ -151,18 +136,7 @@ module _ (s s₁ : St) (l r : Side) (k : Kept) where
   pub fasten-cells : (a b : CellNo) → l ≡ Cell a → r ≡ Cell b → Came s₁ k (fastened (Cell a) (Cell b) s) → Came s₁ k (fastened l r s)
   fasten-cells a b e f p = came_as p (rw (e, f))
 
-pub countable_names : (s : St) (l r : Side) (x y : NameNo) → Countable l r s → l ≡ Name x → r ≡ Name y → Countable (Name x) (Name y) s
-countable_names s l r x y f e g = subst (λ a. Countable (Name x) a s) g (subst (λ a. Countable a r s) e f)
-
 module _ (s s₁ : St) (a b : CellNo) (k : Kept) (q : Equation) (is : q ≡ record { left = Cell a; right = Cell b }) where
-  pub head-room : Wirable s → a.0 < cells_max → b.0 < cells_max → RoomOn Waits q s
-  head-room f ha hb =
-      record {
-        room = omega (arith, f.room);
-        left = omega (arith, ap (λ d. number d.left) is);
-        right = omega (arith, ap (λ d. number d.right) is);
-      }
-
   pub put_way : Right k s → s₁ ≡ put_on Waits (pair q) s → Came s₁ k (fastened (Cell a) (Cell b) s)
   unfolding fastened
   put_way f p =

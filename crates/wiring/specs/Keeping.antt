@@ -14,8 +14,8 @@ unfoldable pub renamed : Kept → ℕ → ℕ → ℕ → Kept
 renamed k x old word = record {
   cells = k.cells;
   names = k.names - min 1 old + min 1 word;
-  lowcell = k.lowcell;
-  lowname = lowered k.lowname x word;
+  low_cell = k.low_cell;
+  low_name = lowered k.low_name x word;
 }
 
 -- A name in use is counted.

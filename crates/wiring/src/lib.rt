@@ -1,7 +1,7 @@
 // The wiring of an equation with a name on some side, on a lent state and with what a run keeps beside it.
 #![tactic(auto)]
 
-ghost use Rattle.std.specs.Prelude.{◌≡◌, ◌+◌, ◌-◌, ◌<◌, min};
+ghost use Rattle.std.specs.Prelude.{◌≡◌, ◌<◌};
 ghost use Rattle.parts.specs.Limits.{cells_max, names_max};
 ghost use Rattle.parts.specs.Typed.{number};
 ghost use Rattle.state.specs.Layout.{view};
@@ -12,7 +12,7 @@ ghost use Rattle.wiring.specs.Wiring.{bound, loop_here, Wirable, Countable, Read
 ghost use Rattle.wiring.specs.Keeping.{Renamable, renamed, lowered, Came};
 
 use kept::Kept;
-use parts::{CellNo, Equation, Limits, NameNo, Side, decode, encode};
+use parts::{CellNo, Equation, Limits, NameNo, Side, encode};
 use state::Pile;
 
 // The word of a name that is tied or joined to a side.
@@ -28,12 +28,7 @@ fn same_or_joined(state: &[u16; Limits::STATE], x: NameNo, y: NameNo) -> bool
     requires { (x.0 < names_max) × (y.0 < names_max) }
     ensures { result ≡ loop_here (Side.Name x) (Side.Name y) (view state.now) }
 {
-    if x.0 == y.0 {
-        return true;
-    }
-    let w = state::name_word(state, x);
-    let b = bound_to(Side::Name(y));
-    w == b
+    x == y || state::name_word(state, x) == bound_to(Side::Name(y))
 }
 
 // Whether an equation of these sides is a loop: "x = x, or x = y with x joined to y".
@@ -41,35 +36,19 @@ pub fn loops_here(state: &[u16; Limits::STATE], l: Side, r: Side) -> bool
     requires { (number l < names_max) × (number r < names_max) }
     ensures { result ≡ loop_here l r (view state.now) }
 {
-    match l {
-        Side::Name(x) => match r {
-            Side::Name(y) => same_or_joined(state, x, y),
-            Side::Cell(_) => false,
-        },
-        Side::Cell(_) => false,
+    match (l, r) {
+        (Side::Name(x), Side::Name(y)) => same_or_joined(state, x, y),
+        _ => false,
     }
 }
 
-// One for a word of a name in use, none for 0.
-fn one_if_used(word: u16) -> u16
-    ensures { result ≡ min 1 word }
-{
-    if word == 0 {
-        return 0;
-    }
-    1
-}
-
+// What is kept is right of the state behind the `&mut`: `Right` and `Wirable` stand in the clauses, since a struct of the two would have to be
+// right at each write between, where it is not.
 // The number below which no name is free, once name x has a new word.
 fn lower(low: u16, x: u16, word: u16) -> u16
     ensures { result ≡ lowered low x word }
 {
-    if word == 0 {
-        if x < low {
-            return x;
-        }
-    }
-    low
+    if word == 0 { low.min(x) } else { low }
 }
 
 // What is kept, once the word of name x is new.
@@ -77,14 +56,12 @@ fn rename(k: Kept, x: NameNo, old: u16, word: u16) -> Kept
     requires { Renamable k old }
     ensures { result ≡ renamed k x.0 old word }
 {
-    let gone = one_if_used(old);
-    let come = one_if_used(word);
-    let low = lower(k.lowname, x.0, word);
+    let gone = u16::from(old != 0);
+    let come = u16::from(word != 0);
     Kept {
-        cells: k.cells,
         names: k.names - gone + come,
-        lowcell: k.lowcell,
-        lowname: low,
+        low_name: lower(k.low_name, x.0, word),
+        ..k
     }
 }
 
@@ -106,12 +83,9 @@ fn end_of(state: &[u16; Limits::STATE], s: Side) -> Side
     match s {
         Side::Name(x) => {
             let w = state::name_word(state, x);
-            if w < 2 {
-                return Side::Name(x);
-            }
-            decode(w - 2)
+            if w < 2 { s } else { Side::from(w - 2) }
         }
-        Side::Cell(c) => Side::Cell(c),
+        Side::Cell(_) => s,
     }
 }
 
@@ -120,20 +94,17 @@ fn drop_bond(state: &mut [u16; Limits::STATE], s: Side, k: Kept) -> Kept
     requires { Wirable (view state.old) × (number s < names_max) × Right k (view state.old) }
     ensures { Came (view state.new) result (dropped s (view state.old)) }
 {
-    match s {
-        Side::Name(x) => {
-            let w = state::name_word(state, x);
-            if w < 2 {
-                return k;
-            }
-            let k1 = set_name(state, x, 0, k);
-            let t = decode(w - 2);
-            match t {
-                Side::Name(y) => set_name(state, y, 1, k1),
-                Side::Cell(_) => k1,
-            }
-        }
-        Side::Cell(_) => k,
+    let Side::Name(x) = s else {
+        return k;
+    };
+    let w = state::name_word(state, x);
+    if w < 2 {
+        return k;
+    }
+    let k1 = set_name(state, x, 0, k);
+    match Side::from(w - 2) {
+        Side::Name(y) => set_name(state, y, 1, k1),
+        Side::Cell(_) => k1,
     }
 }
 
@@ -143,16 +114,14 @@ fn fasten_names(state: &mut [u16; Limits::STATE], x: NameNo, y: NameNo, k: Kept)
     requires countable { Countable (Side.Name x) (Side.Name y) (view state.old) }
     ensures { Came (view state.new) result (fastened (Side.Name x) (Side.Name y) (view state.old)) }
 {
-    if x.0 == y.0 {
+    if x == y {
         let n = state::loops(state);
         let freed = set_name(state, x, 0, k);
         state::set_loops(state, n + 1);
         return freed;
     }
-    let a = bound_to(Side::Name(y));
-    let b = bound_to(Side::Name(x));
-    let k1 = set_name(state, x, a, k);
-    set_name(state, y, b, k1)
+    let k1 = set_name(state, x, bound_to(Side::Name(y)), k);
+    set_name(state, y, bound_to(Side::Name(x)), k1)
 }
 
 // A name tied to a cell.
@@ -160,8 +129,7 @@ fn tie(state: &mut [u16; Limits::STATE], x: NameNo, c: CellNo, k: Kept) -> Kept
     requires { Wirable (view state.old) × (x.0 < names_max) × (c.0 < cells_max) × Right k (view state.old) }
     ensures { Came (view state.new) result (stored Part.Names x.0 (bound (Side.Cell c)) (view state.old)) }
 {
-    let w = bound_to(Side::Cell(c));
-    set_name(state, x, w, k)
+    set_name(state, x, bound_to(Side::Cell(c)), k)
 }
 
 // Two cells: an equation put.
@@ -183,15 +151,11 @@ fn fasten(state: &mut [u16; Limits::STATE], l: Side, r: Side, k: Kept) -> Kept
     requires countable { Countable l r (view state.old) }
     ensures { Came (view state.new) result (fastened l r (view state.old)) }
 {
-    match l {
-        Side::Name(x) => match r {
-            Side::Name(y) => fasten_names(state, x, y, k),
-            Side::Cell(c) => tie(state, x, c, k),
-        },
-        Side::Cell(a) => match r {
-            Side::Name(y) => tie(state, y, a, k),
-            Side::Cell(b) => put_cells(state, a, b, k),
-        },
+    match (l, r) {
+        (Side::Name(x), Side::Name(y)) => fasten_names(state, x, y, k),
+        (Side::Name(x), Side::Cell(c)) => tie(state, x, c, k),
+        (Side::Cell(c), Side::Name(y)) => tie(state, y, c, k),
+        (Side::Cell(a), Side::Cell(b)) => put_cells(state, a, b, k),
     }
 }
 

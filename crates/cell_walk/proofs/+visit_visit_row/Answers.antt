@@ -1,6 +1,5 @@
 -- `cell_walk::visit` and `cell_walk::visit_row` meet their contracts. The measure is the cells not yet met.
-use native.Mathlib.Omega.{arith}
-use borrow.Author.Rules.{rules}
+use Rattle.std.proofs.Common.{rules, arith}
 use Rattle.sound.proofs.Places.{part_small}
 use Rattle.cell_walk.proofs.Steps.{left_ready, left_more, left_stop, left_end}
 use Rattle.cell_walk.proofs.Cells.{visit_name, visit_barred, visit_into, ready-entered, entered-fits, entered-falls}
@@ -10,14 +9,15 @@ use Rattle.cell_walk.proofs.+visit_visit_row.Goals as goal
 pub visit-returns-in-Name : goal.visit-returns-in-Name
 visit-returns-in-Name t c = search (rules, visit_name)
 
-pub visit-returns-then-symbol-eq0 : goal.visit-returns-then-symbol-eq0
-visit-returns-then-symbol-eq0 t c = search (rules, visit_barred)
+pub visit-returns-in_default : goal.visit-returns-in_default
+visit-returns-in_default t c = search (rules, visit_barred)
 
 pub visit-visit_row-requires : goal.visit-visit_row-requires
 visit-visit_row-requires t c = (search (rules, entered-falls), (search (rules, ready-entered), search (rules, entered-fits)))
 
-pub visit-returns-in-Cell : goal.visit-returns-in-Cell
-visit-returns-in-Cell t c = search (rules, visit_into)
+pub visit-returns-in-Some : goal.visit-returns-in-Some
+visit-returns-in-Some t c =
+    visit_into _ _ _ _ _ _ c.requires c.in-Some.ensures _ _ _ _ _ _ _ c.from.ensures c.in-Cell.is c.from-n.ensures c.width_of.ensures c.from-from.ensures c.visit_row.ensures
 
 pub visit_row-loop-i-init : goal.visit_row-loop-i-init
 visit_row-loop-i-init t c = search (rules, row_begin)

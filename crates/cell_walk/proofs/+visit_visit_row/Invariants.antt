@@ -1,5 +1,5 @@
 -- `cell_walk::visit` and `cell_walk::visit_row` meet their contracts. The measure is the cells not yet met.
-use Prim.Native.Nat.{◌+◌, ◌-◌, ◌*◌}
+use Rattle.std.proofs.Common.{◌+◌, ◌-◌, ◌*◌}
 use Rattle.state.specs.Layout.{view}
 use Rattle.state.specs.Places.{words}
 use Rattle.cell_walk.specs.Walks.{row, unmet}
@@ -13,7 +13,4 @@ abbrev pub decreases-visit_row : goal.decreases-visit_row
 decreases-visit_row l = 2 * unmet l.seen.now + 1
 
 abbrev pub invariant-visit_row-loop-i : goal.invariant-visit_row-loop-i
-invariant-visit_row-loop-i l = Left l.table (view l.state) (row (words l.p (view l.state)) l.from l.n) l.initial.seen (row (words l.p (view l.state)) (l.from + l.i) (l.n - l.i)) l.seen
-
-abbrev pub decreases-visit_row-loop-i : goal.decreases-visit_row-loop-i
-decreases-visit_row-loop-i l = l.n - l.i
+invariant-visit_row-loop-i l = Left l.lent.table.bytes.now (view l.lent.state.now) (row (words l.p (view l.lent.state.now)) l.from l.n) l.initial.seen (row (words l.p (view l.lent.state.now)) (l.from + l.i) (l.n - l.i)) l.seen

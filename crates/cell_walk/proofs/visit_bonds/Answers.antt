@@ -1,5 +1,5 @@
 -- `cell_walk::visit_bonds` meets its contract.
-use borrow.Author.Rules.{rules}
+use Rattle.std.proofs.Common.{rules}
 use Rattle.cell_walk.proofs.Steps.{left_all, left_ready, left_more, left_stop, left_end}
 use Rattle.cell_walk.proofs.Roots.{bonds-cut, bonds_begin, bonds_gone}
 use Rattle.cell_walk.proofs.visit_bonds.Goals as goal

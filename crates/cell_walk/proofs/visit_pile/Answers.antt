@@ -1,6 +1,5 @@
 -- `cell_walk::visit_pile` meets its contract.
-use native.Mathlib.Omega.{arith}
-use borrow.Author.Rules.{rules}
+use Rattle.std.proofs.Common.{arith, rules}
 use Rattle.sound.proofs.Places.{part_small}
 use Rattle.cell_walk.proofs.Steps.{left_all, left_ready, left_more, left_stop, left_end}
 use Rattle.cell_walk.proofs.Roots.{pile-cut, pile-begins, pile_gone}

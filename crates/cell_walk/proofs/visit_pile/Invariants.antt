@@ -1,5 +1,5 @@
 -- `cell_walk::visit_pile` meets its contract.
-use Prim.Native.Nat.{◌≤◌}
+use Rattle.std.proofs.Common.{◌≤◌}
 use Rattle.model.specs.State.{unpack}
 use Rattle.model.specs.Test.{sides_of}
 use Rattle.state.specs.Layout.{view}
@@ -8,7 +8,4 @@ use Rattle.cell_walk.proofs.Steps.{Left}
 use Rattle.cell_walk.proofs.visit_pile.Given as goal
 
 abbrev pub invariant-loop-k : goal.invariant-loop-k
-invariant-loop-k l = (l.k ≤ l.n) × Left l.table (view l.state) (sides_of (unpack l.n (words l.p (view l.state)))) l.initial.seen (sides_of (unpack l.k (words l.p (view l.state)))) l.seen
-
-abbrev pub decreases-loop-k : goal.decreases-loop-k
-decreases-loop-k l = l.k
+invariant-loop-k l = (l.k ≤ l.n) × Left l.lent.table.bytes.now (view l.lent.state.now) (sides_of (unpack l.n (words l.p (view l.lent.state.now)))) l.initial.seen (sides_of (unpack l.k (words l.p (view l.lent.state.now)))) l.seen

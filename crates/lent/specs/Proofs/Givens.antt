@@ -1,7 +1,6 @@
 -- A table that some rule text would give: the machine's table in it, which is sound, and that its bytes are usable.
 use Rattle.std.specs.Prelude.{◌≡◌, refl, true, List, ℕ}
-use Rattle.std.proofs.Common.{sym, ◌∙◌}
-use Rattle.std.proofs.Math.Path.{ap}
+use Rattle.std.proofs.Common.{sym, ◌∙◌, ap}
 use Rattle.model.specs.SoundTable.{SoundTable}
 use Rattle.texts.specs.Books.{Book}
 use Rattle.texts.specs.Coded.{table_of, machine}

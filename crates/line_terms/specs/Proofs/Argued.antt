@@ -1,10 +1,6 @@
 -- The meaning of the test of number 7, of one field and of a line, from that of a term. Assumes nothing.
-use Rattle.std.specs.Prelude.{ℕ, suc, ◌+◌, ◌-◌, ◌≤◌, ◌≡◌, refl, Bool, ◌||◌, take}
-use Rattle.std.proofs.Common.{sym, ◌∙◌, arith, eq-eqb, le-ltb}
-use Rattle.std.proofs.Math.Path.{ap}
-use Rattle.std.proofs.Math.Bool.{true, false, not}
-use mathlib.Core.List.{List, [], ◌∷◌, ◌++◌, append-nil}
-use Rattle.std.proofs.Math.ListN.{length, drop}
+use Rattle.std.specs.Prelude.{ℕ, suc, ◌+◌, ◌-◌, ◌≤◌, ◌≡◌, refl, Bool, ◌||◌, take, true, false, not, List, [], ◌∷◌, ◌++◌, length, drop}
+use Rattle.std.proofs.Common.{sym, ◌∙◌, arith, eq-eqb, le-ltb, ap, append-nil}
 use Rattle.parts.specs.Limits.{level_max}
 use Rattle.texts.specs.Bytes.{Word, any}
 use Rattle.texts.specs.Terms.{Term, spell, Node, nodes_at, nodes}

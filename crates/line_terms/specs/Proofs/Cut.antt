@@ -1,12 +1,7 @@
 -- The first field of a line that is cut, and the line that is left after it. Assumes nothing.
-use Rattle.std.specs.Prelude.{ℕ, suc, ◌+◌, ◌-◌, ◌<◌, ◌≤◌, ◌≡◌, refl, Bool, true, false, length, take, ltb}
-use Rattle.std.proofs.Math.Path.{sym, ap}
-use Rattle.std.proofs.Common.{◌∙◌, length-drop, take-append-drop, take-take, drop-drop, take_at, ltb-true, ltb-false}
-use mathlib.Core.List.{List, [], ◌∷◌, ◌++◌, append_assoc}
+use Rattle.std.specs.Prelude.{ℕ, suc, ◌+◌, ◌-◌, ◌<◌, ◌≤◌, ◌≡◌, refl, Bool, true, false, length, take, ltb, List, [], ◌∷◌, ◌++◌, drop}
+use Rattle.std.proofs.Common.{sym, ap, ◌∙◌, length-drop, take-append-drop, take-take, drop-drop, take_at, ltb-true, ltb-false, append_assoc, arith, length-take-le}
 use Rattle.std.proofs.Math.Option.{some}
-use native.Mathlib.Omega.{arith}
-use Rattle.std.proofs.Math.ListN.{drop}
-use Rattle.std.proofs.Math.Seq.{length-take-le}
 use Rattle.texts.specs.Bytes.{Word, word_byte, letter, digit, fields}
 use Rattle.texts.specs.Terms.{Term}
 use Rattle.texts.specs.Answers.{◌>>=◌}

@@ -1,9 +1,6 @@
 -- The identifiers, cells and names of a line, from those of its first term and of the rest. Assumes nothing.
-use Rattle.std.specs.Prelude.{ℕ, ◌+◌, ◌≡◌, Bool, false, ◌||◌, List, [], ◌∷◌, ◌++◌}
-use Rattle.std.proofs.Common.{sym, ◌∙◌, append-nil, arith}
-use Rattle.std.proofs.Math.Path.{ap}
-use Rattle.std.proofs.Math.Bool.{not}
-use Rattle.std.proofs.Math.ListN.{length}
+use Rattle.std.specs.Prelude.{ℕ, ◌+◌, ◌≡◌, Bool, false, ◌||◌, List, [], ◌∷◌, ◌++◌, not, length}
+use Rattle.std.proofs.Common.{sym, ◌∙◌, append-nil, arith, ap}
 use Rattle.texts.specs.Bytes.{Word, any, keep}
 use Rattle.texts.specs.Terms.{Term, Node, nodes_at, nodes, words_of}
 use Rattle.texts.specs.Books.{Agent, declared, names_of}

@@ -1,14 +1,8 @@
 -- A term that is spelled in the text is passed exactly where its identifiers have as many arguments as they take. Assumes nothing.
-use Prim.Native.Nat.{ℕ, zero, suc, ◌+◌, ◌-◌, ◌<◌, ◌≤◌}
-use Rattle.std.specs.Prelude.{◌≡◌, Bool, cond, not, ◌||◌, eqb, ltb, get_or, take}
-use Rattle.std.proofs.Math.Path.{refl}
-use Rattle.std.proofs.Common.{sym, ◌∙◌}
-use Rattle.std.proofs.Math.Bool.{true, false, or-true}
-use mathlib.Core.List.{List, ◌∷◌, ◌++◌, append_assoc, append-nil}
-use native.Mathlib.Omega.{arith}
+use Rattle.std.specs.Prelude.{ℕ, zero, suc, ◌+◌, ◌-◌, ◌<◌, ◌≤◌, ◌≡◌, Bool, cond, not, ◌||◌, eqb, ltb, get_or, take, Option, None, Some, refl, true, false, List, ◌∷◌, ◌++◌, length, drop}
+use Rattle.std.proofs.Common.{sym, ◌∙◌, append_assoc, append-nil, arith, length-append, eq-eqb, ne_eqb, ltb-false}
+use Rattle.std.proofs.Math.Bool.{or-true}
 use Rattle.std.proofs.Math.Dec.{eqb-zero-suc, eqb-suc-suc}
-use Rattle.std.proofs.Math.ListN.{length, drop, length-append}
-use borrow.Author.Tests.{eq-eqb, ne_eqb, ltb-false}
 use Rattle.parts.specs.Limits.{level_max, identifier_max}
 use Rattle.texts.specs.Bytes.{Word, any}
 use Rattle.texts.specs.Terms.{identifier, Term, Terms, term, nil, cons, spell, brackets, closing, worded, wordeds, count, nodes_at, nodes_in}
@@ -17,15 +11,15 @@ use Rattle.texts.specs.RuleText.{wrong_args, big_node, is_too_long}
 use Rattle.texts.proofs.Beneath.Tools.{both, neither, any_append}
 use Rattle.scan.specs.Words.{word_end}
 use Rattle.terms.specs.Meaning.{Stops}
-use Rattle.terms.proofs.Beneath.Spelt.{skip, skip_one, here, Ends, stops-ends, open_ends, word-ends, word_here, word-stops}
+use Rattle.terms.proofs.Beneath.Spelt.{skip, skip_one, here, word-ends, word_here, word-stops}
 use Rattle.terms.specs.Reads.{inner}
 use Rattle.terms.proofs.Beneath.Trees.{closing-stops}
+use Rattle.terms.proofs.Beneath.Only.{brackets-ends}
 use Rattle.line_terms.specs.Arguments.{on_past, last_past, next_past, args_past, after_word, term_past}
-use Rattle.line_terms.specs.declared.arguments.Past.{Past}
 
 -- what is said of a term that ends at p, where b tells whether an identifier is wrong
-abbrev pub verdict : Bool → ℕ → Past
-verdict b p = cond b Past.Wrong (Past.At p)
+abbrev pub verdict : Bool → ℕ → Option ℕ
+verdict b p = cond b None (Some p)
 
 pub record TermPasses (text : List ℕ) (ags : List Agent) (t : Term) : Type 0 where
   pub run : (l lv at : ℕ) (rest : List ℕ) → l + lv ≡ suc level_max → worded t ≡ true
@@ -50,17 +44,12 @@ split_big w ts lv h =
     let p = neither (big_node (record { word = w; args = count ts; level = lv })) (any big_node (nodes_in (suc lv) ts)) h in
     (level-small w (count ts) lv p.0, p.1)
 
-brackets-ends : (ts : Terms) (rest : List ℕ) → Stops rest → Ends (brackets ts ++ rest)
-unfolding brackets
-brackets-ends nil rest st = stops-ends rest st
-brackets-ends (cons t ts) rest st = open_ends ((spell t ++ closing ts) ++ rest)
-
 suc-zero : (n : ℕ) → eqb (suc n) 0 ≡ false
 suc-zero n = ne_eqb (suc n) 0 (λ e. omega arith)
 
 module _ (text : List ℕ) (ags : List Agent) where
   -- a word with no brackets after it
-  after_none : (w : Word) (lv at n : ℕ) (args : ℕ → ℕ → Past) → n ≡ takes ags w → (get_or text (at + length w) 0 ≡ 40 → ⊥)
+  after_none : (w : Word) (lv at n : ℕ) (args : ℕ → ℕ → Option ℕ) → n ≡ takes ags w → (get_or text (at + length w) 0 ≡ 40 → ⊥)
       → after_word text args (at + length w) n ≡ verdict (any (wrong_args ags) (nodes_at lv (term w nil))) (at + length (spell (term w nil)))
   unfolding after_word nodes_at any wrong_args count spell brackets
   after_none w lv at zero args e f = rw (← e, ne_eqb (get_or text (at + length w) 0) 40 f, append-nil w)
@@ -118,8 +107,8 @@ module _ (text : List ℕ) (ags : List Agent) where
 
   -- an argument, ending at q, and what stands after it
   args_after : (us : Terms) → ArgsPass text ags us → (l lv more q : ℕ) (rest : List ℕ) → l + lv ≡ suc level_max
-      → wordeds us ≡ true → any big_node (nodes_in lv us) ≡ false → drop q text ≡ closing us ++ rest → (one : ℕ → Past) (at : ℕ)
-      → one ≡ term_past text ags l → one at ≡ Past.At q
+      → wordeds us ≡ true → any big_node (nodes_in lv us) ≡ false → drop q text ≡ closing us ++ rest → (one : ℕ → Option ℕ) (at : ℕ)
+      → one ≡ term_past text ags l → one at ≡ Some q
       → args_past text one more at
       ≡ verdict (not (eqb (suc (count us)) (suc more)) || any (wrong_args ags) (nodes_in lv us)) (q + length (closing us))
   unfolding args_past on_past last_past next_past closing count nodes_in any inner
@@ -133,7 +122,7 @@ module _ (text : List ℕ) (ags : List Agent) where
       let len : q + 1 + length (spell x ++ closing xs) ≡ q + suc (length (spell x ++ closing xs)) = omega arith in
       rw (h, eq-eqb (get_or text q 0) 44 (here text q 44 ((spell x ++ closing xs) ++ rest) d), eqb-suc-suc (suc (count xs)) (suc m)) (rw (← o, len) at A)
 
-  args-lost : (one : ℕ → Past) (more at : ℕ) → one at ≡ Past.Wrong → args_past text one more at ≡ Past.Wrong
+  args-lost : (one : ℕ → Option ℕ) (more at : ℕ) → one at ≡ None → args_past text one more at ≡ None
   unfolding args_past on_past
   args-lost one zero at h = rw h
   args-lost one (suc m) at h = rw h

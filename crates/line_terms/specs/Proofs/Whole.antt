@@ -1,12 +1,6 @@
 -- The meaning of a whole line, field by field. Assumes nothing.
-use Prim.Native.Nat.{ℕ, suc, ◌+◌, ◌≤◌}
-use Rattle.std.specs.Prelude.{◌≡◌, Bool, ◌||◌, set}
-use Rattle.std.proofs.Math.Path.{refl, sym}
-use Rattle.std.proofs.Common.{ap, ◌∙◌, le-ltb}
-use Rattle.std.proofs.Math.Bool.{true, false}
-use mathlib.Core.List.{List, [], ◌∷◌, ◌++◌, append_assoc, append-nil}
-use native.Mathlib.Omega.{arith}
-use Rattle.std.proofs.Math.ListN.{length, length-append}
+use Rattle.std.specs.Prelude.{ℕ, suc, ◌+◌, ◌≤◌, ◌≡◌, Bool, ◌||◌, set, Option, None, Some, refl, true, false, List, [], ◌∷◌, ◌++◌, length}
+use Rattle.std.proofs.Common.{sym, ap, ◌∙◌, le-ltb, append_assoc, append-nil, arith, length-append}
 use Rattle.parts.specs.Sides.{code}
 use Rattle.texts.specs.Bytes.{Word, any, keep}
 use Rattle.texts.specs.Terms.{Term, nodes, words_of}
@@ -20,7 +14,6 @@ use Rattle.terms.specs.Reader.{Done, done, field_by}
 use Rattle.terms.specs.Meaning.{number, side_at, term_cells, Holds, grown, Spells, Room}
 use Rattle.terms.proofs.Main.{read_right, read-wrong}
 use Rattle.terms.proofs.Beneath.Numbers.{grown_on}
-use Rattle.terms.specs.declared.Field.{Field}
 use Rattle.line_terms.specs.Fields.{field_end, Ran, ran, on_code, fields_by}
 use Rattle.line_terms.specs.Meaning.{Written, Roomy, Left, Read}
 use Rattle.line_terms.specs.Proofs.Cut.{First, no_terms, some_terms}
@@ -28,27 +21,27 @@ use Rattle.line_terms.specs.Proofs.Lines.{any-cons, none_cons, grown-cons, cells
 
 -- one field more
 module _ (text : List ℕ) (ags : List Agent) (to n i at : ℕ) (s : Sheet) (old : List ℕ) (order : at ≤ to) where
-  go_on : (d : Done Field) → field_by text ags at (field_end text at to) s ≡ d
+  go_on : (d : Done (Option ℕ)) → field_by text ags at (field_end text at to) s ≡ d
       → fields_by text ags to (suc n) i at s old ≡ on_code i old d (fields_by text ags to n (i + 1) (field_end text at to + 1))
   unfolding fields_by
   go_on d e = rw (le-ltb to at order, e)
 
-  on_wrong : (s₁ : Sheet) → field_by text ags at (field_end text at to) s ≡ done Field.Wrong s₁
+  on_wrong : (s₁ : Sheet) → field_by text ags at (field_end text at to) s ≡ done None s₁
       → fields_by text ags to (suc n) i at s old ≡ ran false s₁ old
   unfolding on_code
-  on_wrong s₁ e = go_on (done Field.Wrong s₁) e
+  on_wrong s₁ e = go_on (done None s₁) e
 
-  on_code_lem : (v : ℕ) (s₁ : Sheet) → field_by text ags at (field_end text at to) s ≡ done (Field.Code v) s₁ → {x : Ran}
+  on_code_lem : (v : ℕ) (s₁ : Sheet) → field_by text ags at (field_end text at to) s ≡ done (Some v) s₁ → {x : Ran}
       → fields_by text ags to n (i + 1) (field_end text at to + 1) s₁ (set old i v) ≡ x
       → fields_by text ags to (suc n) i at s old ≡ x
   unfolding on_code
-  on_code_lem v s₁ e q = go_on (done (Field.Code v) s₁) e ∙ q
+  on_code_lem v s₁ e q = go_on (done (Some v) s₁) e ∙ q
 
 -- the first term, W being all names
 one_right : (text : List ℕ) (ags : List Agent) (from to : ℕ) (s : Sheet) (t : Term) → Spells text from to t → (cs : List Cell) (ws zs W : List Word)
     → Holds text s cs ws → Room text ags (length cs) ws t
     → any (wrong_args ags) (nodes (t ∷ [])) ≡ false → grown ws (names_of ags (t ∷ [])) ++ zs ≡ W
-    → (s₁ : Sheet) × (field_by text ags from to s ≡ done (Field.Code (code (side_at ags (number W) (length cs) t))) s₁)
+    → (s₁ : Sheet) × (field_by text ags from to s ≡ done (Some (code (side_at ags (number W) (length cs) t))) s₁)
     × Holds text s₁ (cs ++ term_cells ags (number W) (length cs) t) (grown ws (names_of ags (t ∷ [])))
 one_right text ags from to s t f cs ws zs W h r ok e = rw e at (read_right text ags from to s t f cs ws zs h r ok)
 
@@ -149,11 +142,11 @@ module _ (text : List ℕ) (ags : List Agent) (to : ℕ) where
           → Wrong text ags to (suc (length fs)) i from s old
       step t us F b ih = by_first (any (wrong_args ags) (nodes (t ∷ []))) refl b
         where
-          by_read : (d : Done Field) → field_by text ags from (field_end text from to) s ≡ d
+          by_read : (d : Done (Option ℕ)) → field_by text ags from (field_end text from to) s ≡ d
               → any (wrong_args ags) (nodes us) ≡ true
               → Wrong text ags to (suc (length fs)) i from s old
-          by_read (done Field.Wrong s₁) e k = (s₁, old, on_wrong text ags to (length fs) i from s old F.order s₁ e)
-          by_read (done (Field.Code v) s₁) e k =
+          by_read (done None s₁) e k = (s₁, old, on_wrong text ags to (length fs) i from s old F.order s₁ e)
+          by_read (done (Some v) s₁) e k =
               let A = ih (i + 1) (field_end text from to + 1) s₁ (set old i v) F.rest k in
               (A.0, A.1, on_code_lem text ags to (length fs) i from s old F.order v s₁ e A.2)
 

@@ -1,5 +1,5 @@
 -- `loading::write_arguments` meets its contract.
-use Prim.Native.Nat.{◌+◌, ◌*◌, ◌-◌}
+use Prim.Native.Nat.{◌+◌, ◌*◌}
 use lib.ListN.{get_or}
 use Rattle.parts.specs.Limits.{arity_max}
 use Rattle.state.specs.Layout.{view}
@@ -10,6 +10,3 @@ use Rattle.loading.proofs.write_arguments.Given as goal
 
 abbrev pub invariant-loop-k : goal.invariant-loop-k
 invariant-loop-k l = Laying Arguments (arity_max * l.c.0) l.n (λ j. get_or (Sheets.view l.sheet).arguments (arity_max * l.c.0 + j) 0) (view l.initial.state) (view l.state) l.k
-
-abbrev pub decreases-loop-k : goal.decreases-loop-k
-decreases-loop-k l = l.n - l.k

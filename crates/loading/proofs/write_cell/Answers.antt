@@ -1,6 +1,6 @@
 -- `loading::write_cell` meets its contract.
 use Rattle.loading.proofs.Lays.{cell_way}
-use borrow.Author.Rules.{rules}
+use Rattle.std.proofs.Common.{rules}
 use Rattle.loading.proofs.write_cell.Goals as goal
 
 pub returns : goal.returns

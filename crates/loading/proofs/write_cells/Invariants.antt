@@ -1,5 +1,4 @@
 -- `loading::write_cells` meets its contract.
-use Prim.Native.Nat.{◌-◌}
 use Rattle.state.specs.Layout.{view}
 use Rattle.table.specs.Layout.{agents_in}
 use Rattle.terms.specs.Sheet as Sheets
@@ -7,7 +6,4 @@ use Rattle.loading.proofs.Lays.{Celling}
 use Rattle.loading.proofs.write_cells.Given as goal
 
 abbrev pub invariant-loop-c : goal.invariant-loop-c
-invariant-loop-c l = Celling (agents_in l.table) (Sheets.view l.sheet) (view l.initial.state) (view l.state) l.c
-
-abbrev pub decreases-loop-c : goal.decreases-loop-c
-decreases-loop-c l = l.n - l.c
+invariant-loop-c l = Celling (agents_in l.table.bytes.now) (Sheets.view l.sheet) (view l.initial.state) (view l.state) l.c

@@ -5,6 +5,3 @@ use Rattle.loading.proofs.write_equations.Given as goal
 
 abbrev pub invariant-loop-k : goal.invariant-loop-k
 invariant-loop-k l = Stacking l.codes l.f l.n (view l.initial.state) (view l.state) l.k
-
-abbrev pub decreases-loop-k : goal.decreases-loop-k
-decreases-loop-k l = l.k

@@ -1,5 +1,4 @@
 -- `loading::write_face` meets its contract.
-use Prim.Native.Nat.{◌-◌}
 use lib.ListN.{get_or}
 use Rattle.state.specs.Layout.{view}
 use Rattle.state.specs.declared.Part.TheVariants.{Face}
@@ -8,6 +7,3 @@ use Rattle.loading.proofs.write_face.Given as goal
 
 abbrev pub invariant-loop-i : goal.invariant-loop-i
 invariant-loop-i l = Laying Face 0 l.n (λ k. get_or l.codes k 0) (view l.initial.state) (view l.state) l.i
-
-abbrev pub decreases-loop-i : goal.decreases-loop-i
-decreases-loop-i l = l.n - l.i

@@ -1,5 +1,4 @@
 -- `loading::write_names` meets its contract.
-use Prim.Native.Nat.{◌-◌}
 use Rattle.state.specs.Layout.{view}
 use Rattle.state.specs.declared.Part.TheVariants.{Names}
 use Rattle.loading.proofs.Lays.{Laying}
@@ -7,6 +6,3 @@ use Rattle.loading.proofs.write_names.Given as goal
 
 abbrev pub invariant-loop-x : goal.invariant-loop-x
 invariant-loop-x l = Laying Names 0 l.n (λ j. 1) (view l.initial.state) (view l.state) l.x
-
-abbrev pub decreases-loop-x : goal.decreases-loop-x
-decreases-loop-x l = l.n - l.x

@@ -1,14 +1,12 @@
 -- `name_counts::twice` meets its contract.
-use Rattle.sound.proofs.Every.{pass_start, pass_more}
-use Rattle.name_counts.proofs.Counts.{twice_end}
-use borrow.Author.Rules.{rules}
+use Rattle.std.proofs.Common.{rules, ◌∙◌, tests}
+use Rattle.parts.specs.Limits.{names_max}
+use Rattle.state.specs.Layout.{view}
+use Rattle.sound.proofs.Every.{all_below}
+use Rattle.name_counts.proofs.Counts.{twice_way}
 use Rattle.name_counts.proofs.twice.Goals as goal
 
-pub loop-x-init : goal.loop-x-init
-loop-x-init c = search (rules, pass_start)
-
-pub loop-x-preserved : goal.loop-x-preserved
-loop-x-preserved c = pass_more c.paired.result c.both-ok.result c.loop-x.invariant c.loop-x-test.true c.paired.ensures c.both-ok.ensures
-
 pub returns : goal.returns
-returns c = search (rules, twice_end)
+returns c =
+    all_below _ names_max c.all.ensures.ran (cc) (λ x b q k. search (rules, tests))
+    ∙ twice_way c.args.lent.table.bytes.now (view c.args.lent.state.now) (search rules)

@@ -1,10 +1,10 @@
 -- A line's terms taken onto a draft: first its names are entered, then its terms are read.
-use Rattle.std.specs.Prelude.{ℕ, ◌+◌, ◌*◌, ◌≤◌, ◌≡◌, Bool, leb, take, drop}
+use Rattle.std.proofs.lemmas.List.{map-append}
+use Rattle.std.specs.Prelude.{ℕ, ◌+◌, ◌*◌, ◌≤◌, ◌≡◌, Bool, leb, take, drop, List, [], ◌++◌, map}
 use Rattle.std.proofs.Math.Path.{refl, sym, ap, ap₂}
-use Rattle.std.proofs.Common.{subst, ◌∙◌, arith}
+use Rattle.std.proofs.Common.{subst, ◌∙◌, arith, append_assoc}
 use Rattle.std.proofs.Math.Bool.{true, false, not}
-use mathlib.Core.List.{List, [], ◌++◌, map, map-append, append_assoc}
-use Rattle.std.proofs.Math.ListN.{length, get_or, length-append, length-map, length-take, get_or-append}
+use Rattle.std.proofs.Math.ListN.{length, length-append, length-map, length-take}
 use Rattle.std.proofs.Math.Seq.{sets, length-sets, take_at}
 use Rattle.std.proofs.lemmas.List.Edits.{sets-eq}
 use Rattle.parts.specs.Limits.{text_max, arity_max, net_cells_max, net_names_max, rule_equations_max, face_max, net_equations_max}
@@ -20,8 +20,6 @@ use Rattle.texts.proofs.Beneath.Means.{spell-terms}
 use Rattle.texts.proofs.Beneath.NetMeans.{nodes-append}
 use Rattle.texts.proofs.Beneath.Linear.{cell-count}
 use Rattle.texts.proofs.Beneath.Loads.{cells-append, codes-append}
-use Rattle.table.specs.Lists.{tab}
-use Rattle.table.specs.Laws.Lists.{tab_list}
 use Rattle.terms.specs.Sheet.{Sheet}
 use Rattle.terms.specs.Meaning.{number, Holds, grown}
 use Rattle.lines.specs.Names.{Within}
@@ -101,13 +99,10 @@ module _ (text : List ℕ) (ags : List Agent) (ts us : List Term) where
           ((read zs).left ok zs).codes
           ∙ ap₂ (λ l k. sets t.old 0 (map code (codes ags (number (l ++ zs)) k (packed us)))) (named_stays ags ts us) (let q = before_many zs in omega (arith, q))
 
-      new_at : (zs : List Word) → tab n (λ k. get_or t.new k 0) ≡ new_codes zs
+      new_at : (zs : List Word) → take n t.new ≡ new_codes zs
       new_at zs =
-          ap (λ m. tab m (λ k. get_or t.new k 0)) (sym (new_many zs))
-          ∙ tab_list (new_codes zs) (λ k. get_or t.new k 0) 0
-          (λ k q.
-          ap (λ l. get_or l k 0) (new_is zs ∙ sets-eq (new_codes zs) t.old 0 (let z = new_many zs in let y = t.wide in omega (arith, z, y, narrow)))
-          ∙ get_or-append (new_codes zs) (drop (0 + length (new_codes zs)) t.old) 0 k q)
+          ap (take n) (new_is zs ∙ sets-eq (new_codes zs) t.old 0 (let z = new_many zs in let y = t.wide in omega (arith, z, y, narrow)))
+          ∙ take_at (new_codes zs) (drop (0 + length (new_codes zs)) t.old) n (new_many zs)
 
       put_is : (zs : List Word) → cs₁ ≡ (take (length ts) cs ++ new_codes zs) ++ drop (length ts + length (new_codes zs)) cs
       put_is zs =
@@ -134,7 +129,7 @@ module _ (text : List ℕ) (ags : List Agent) (ts us : List Term) where
                 ∙ ap (λ l. l ++ new_codes zs) c
                 ∙ sym (map-append code (codes ags (number (W ++ zs)) 0 (packed ts)) (codes ags (number (W ++ zs)) (0 + length (cells_of ags ts)) (packed us)))
                 ∙ ap (map code) (sym (codes-append ags (number (W ++ zs)) ts us 0));
-            long = ap length (t.puts ok) ∙ length-sets cs (length ts) (tab n (λ k. get_or t.new k 0)) ∙ long;
+            long = ap length (t.puts ok) ∙ length-sets cs (length ts) (take n t.new) ∙ long;
             right =
                 ap (any (wrong_args ags)) (nodes-append ts us)
                 ∙ any_append (wrong_args ags) (nodes ts) (nodes us)

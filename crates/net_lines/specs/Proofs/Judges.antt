@@ -1,11 +1,12 @@
 -- Each way out of the judgement of a line's terms.
-use Rattle.std.specs.Prelude.{ℕ, suc, ◌+◌, ◌-◌, ◌*◌, ◌≤◌, ◌<◌, ◌≡◌, refl, Bool, true, false, cond, not, ◌||◌, ltb, leb, drop}
+use Rattle.std.specs.Prelude.{ℕ, suc, ◌+◌, ◌-◌, ◌*◌, ◌≤◌, ◌<◌, ◌≡◌, refl, Bool, true, false, not, ◌||◌, ltb, leb, drop, Result, Ok, Err, ⊤, List, [], ◌∷◌, ◌++◌}
 use Rattle.std.proofs.Math.Path.{sym, ap}
 use Rattle.std.proofs.Common.{subst, ◌∙◌, arith, length-take, ltb-false, leb-true, leb-false, lt-ltb, le-ltb}
-use mathlib.Core.List.{List, [], ◌∷◌, ◌++◌}
 use Rattle.std.proofs.Math.Option.{some}
 use Rattle.std.proofs.Math.ListN.{length, length-drop}
 use Rattle.parts.specs.Limits.{net_cells_max, net_names_max, face_max, net_equations_max, rule_equations_max}
+use Rattle.parts.specs.declared.faults.Fault.{Fault}
+use Rattle.parts.specs.declared.faults.Fault.TheVariants.{TooBig, WrongArguments}
 use Rattle.texts.specs.Bytes.{Word, any, keep, fields, different}
 use Rattle.texts.specs.Terms.{Term, nodes}
 use Rattle.texts.specs.Books.{Agent, Net, declared, cells_of, names_of, net_terms}
@@ -28,7 +29,7 @@ use Rattle.line_terms.specs.Meaning.{Parted, Written}
 use Rattle.line_terms.specs.Main.{newline_stops}
 use Rattle.net_lines.specs.Draft.{named}
 use Rattle.net_lines.specs.Taking.{Took, Numbered}
-use Rattle.net_lines.specs.Judging.{verdict, Asked, Judged}
+use Rattle.net_lines.specs.Judging.{Asked, Judged}
 use Rattle.net_lines.specs.Proofs.Codes.{cells-both}
 use Rattle.net_lines.specs.Proofs.Drafts.{entered-told, entered-holds, taken-told, taken-draft}
 
@@ -41,9 +42,9 @@ or_left a b h = rw h
 
 module _ {text : List ℕ} {ags : List Agent} {at end : ℕ} {over : Bool} {s : Sheet} {cs : List ℕ} {used : ℕ} {ts us : List Term} {m : Net}
     (q : Asked text ags at end over s cs used ts us m) where
-  five : {s₁ : Sheet} {cs₁ : List ℕ} → net_fault5 ags us m ≡ true → Judged text ags ts us m 5 s₁ cs₁
-  unfolding net_judged verdict refuse
-  five h = record { told = rw h; draft = λ z. absurd (omega arith) }
+  five : {s₁ : Sheet} {cs₁ : List ℕ} → net_fault5 ags us m ≡ true → Judged text ags ts us m (Err TooBig) s₁ cs₁
+  unfolding net_judged refuse
+  five h = record { told = rw h; draft = Prim.tt }
 
   big : (any big_node (nodes us) ≡ true) → net_fault5 ags us m ≡ true
   unfolding net_fault5
@@ -73,7 +74,7 @@ module _ {text : List ℕ} {ags : List Agent} {at end : ℕ} {over : Bool} {s : 
   names-are : different (names_of ags (net_terms m)) ≡ named ags (ts ++ us)
   names-are = ap (λ l. different (names_of ags l)) q.net
 
-  pub over-judged : {s₁ : Sheet} {cs₁ : List ℕ} → over ≡ true → Judged text ags ts us m 5 s₁ cs₁
+  pub over-judged : {s₁ : Sheet} {cs₁ : List ℕ} → over ≡ true → Judged text ags ts us m (Err TooBig) s₁ cs₁
   over-judged h = five (net (net_is ∙ or_left _ names_big (or_left over cells_big h)))
 
   module _ (line : List ℕ) (is : line ≡ between text at end) where
@@ -81,7 +82,7 @@ module _ {text : List ℕ} {ags : List Agent} {at end : ℕ} {over : Bool} {s : 
     spelt = ap (λ l. terms_of (drop 1 (fields l))) is ∙ q.terms
 
     module _ (o : Bool) (eo : (vs : List Term) → terms_of (drop 1 (fields line)) ≡ some vs → o ≡ any big_node (nodes vs)) where
-      pub big-judged : {s₁ : Sheet} {cs₁ : List ℕ} → o ≡ true → Judged text ags ts us m 5 s₁ cs₁
+      pub big-judged : {s₁ : Sheet} {cs₁ : List ℕ} → o ≡ true → Judged text ags ts us m (Err TooBig) s₁ cs₁
       big-judged h = five (big (sym (eo us spelt) ∙ h))
 
       module _ (no : o ≡ false) (ov : over ≡ false) (c : Bool)
@@ -92,7 +93,7 @@ module _ {text : List ℕ} {ags : List Agent} {at end : ℕ} {over : Bool} {s : 
         cells_told : c ≡ cells_big
         cells_told = ec ∙ ap (λ l. ltb net_cells_max (s.cells + length l)) (part-cells line 1 us spelt ags) ∙ ap (ltb net_cells_max) (sym cells_are)
 
-        pub cells-judged : {s₁ : Sheet} {cs₁ : List ℕ} → c ≡ true → Judged text ags ts us m 5 s₁ cs₁
+        pub cells-judged : {s₁ : Sheet} {cs₁ : List ℕ} → c ≡ true → Judged text ags ts us m (Err TooBig) s₁ cs₁
         cells-judged h = five (net (net_is ∙ or_left _ names_big (or_right over cells_big (sym cells_told ∙ h))))
 
         module _ (nc : c ≡ false) (f : ℕ) (ef : f ≡ field_start line 1) (s₁ : Sheet) (e₁ : Bool)
@@ -105,7 +106,7 @@ module _ {text : List ℕ} {ags : List Agent} {at end : ℕ} {over : Bool} {s : 
           names-told : e₁ ≡ leb (length (different (names_of ags (net_terms m)))) net_names_max
           names-told = entered-told text ags ts us s₁ net_names_max e₁ within ∙ ap (λ l. leb (length l) net_names_max) (sym names-are)
 
-          pub names-judged : {s₂ : Sheet} {cs₂ : List ℕ} → e₁ ≡ false → Judged text ags ts us m 5 s₂ cs₂
+          pub names-judged : {s₂ : Sheet} {cs₂ : List ℕ} → e₁ ≡ false → Judged text ags ts us m (Err TooBig) s₂ cs₂
           names-judged h =
               let l = leb-false (length (different (names_of ags (net_terms m)))) net_names_max (sym names-told ∙ h) in
               five (net (net_is ∙ or_right (over || cells_big) names_big (lt-ltb net_names_max (length (different (names_of ags (net_terms m)))) l)))
@@ -174,27 +175,26 @@ module _ {text : List ℕ} {ags : List Agent} {at end : ℕ} {over : Bool} {s : 
             none a true p z = never (sym p ∙ z)
             none a false p z = refl
 
-            seven-judged : k ≡ false → Judged text ags ts us m 7 s₂ cs₂
-            unfolding net_judged verdict refuse net_fault7
+            seven-judged : k ≡ false → Judged text ags ts us m (Err WrongArguments) s₂ cs₂
+            unfolding net_judged refuse net_fault7
             seven-judged h = record {
               told = rw (no_five, seven k (any (wrong_args ags) (nodes us)) told h);
-              draft = λ z. absurd (omega arith);
+              draft = Prim.tt;
             }
 
-            fine-judged : k ≡ true → Judged text ags ts us m 0 s₂ cs₂
-            unfolding net_judged verdict refuse net_fault7
+            fine-judged : k ≡ true → Judged text ags ts us m (Ok Prim.tt) s₂ cs₂
+            unfolding net_judged refuse net_fault7
             fine-judged h = record {
               told = rw (no_five, none k (any (wrong_args ags) (nodes us)) told h);
-              draft = λ z.
+              draft =
                   taken-draft text ags ts us s₁ s₂ cs cs₂ (at + f) end n (drop 1 (fields line)) k (entered-holds text ags ts us s₁ net_names_max e₁ within yes)
                   q.draft.codes q.draft.long q.draft.right written many narrow room' q.fit.short q.fit.arities small cells-few names-few took h;
             }
 
           pub all_judged : (yes : e₁ ≡ true) (n : ℕ) → suc n ≡ length (fields line) → n ≤ 2 * rule_equations_max → used + n ≤ face_max + 2 * net_equations_max
-              → {r : ℕ} {s₂ : Sheet} {cs₂ : List ℕ} → Numbered text ags (at + f) end n s₁ cs used r s₂ cs₂ → Judged text ags ts us m r s₂ cs₂
-          all_judged y n sn narrow room {r} {s₂} {cs₂} t =
-              subst (λ k. Judged text ags ts us m k s₂ cs₂) (sym t.number) (go t.right refl)
+              → {r : Result ⊤ Fault} {s₂ : Sheet} {cs₂ : List ℕ} → Numbered text ags (at + f) end n s₁ cs used r s₂ cs₂ → Judged text ags ts us m r s₂ cs₂
+          all_judged y n sn narrow room {r} {s₂} {cs₂} t = go r t
             where
-              go : (k : Bool) → t.right ≡ k → Judged text ags ts us m (cond t.right 0 7) s₂ cs₂
-              go true e = subst (λ b. Judged text ags ts us m (cond b 0 7) s₂ cs₂) (sym e) (fine-judged y n sn narrow room t.right s₂ cs₂ t.took e)
-              go false e = subst (λ b. Judged text ags ts us m (cond b 0 7) s₂ cs₂) (sym e) (seven-judged y n sn narrow room t.right s₂ cs₂ t.took e)
+              go : (r : Result ⊤ Fault) → Numbered text ags (at + f) end n s₁ cs used r s₂ cs₂ → Judged text ags ts us m r s₂ cs₂
+              go (Ok u) t = fine-judged y n sn narrow room true s₂ cs₂ t.took refl
+              go (Err g) t = subst (λ f. Judged text ags ts us m (Err f) s₂ cs₂) (sym t.number) (seven-judged y n sn narrow room false s₂ cs₂ t.took refl)

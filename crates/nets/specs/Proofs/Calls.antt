@@ -1,9 +1,11 @@
 -- Each way out of the call, and what it begins with.
-use Rattle.std.specs.Prelude.{ℕ, suc, ◌+◌, ◌*◌, ◌≤◌, ◌<◌, ◌≡◌, Bool, true, false, ◌&&◌, ◌||◌, ◌↔◌, List, [], ◌∷◌, leb, length, get_or}
+use Rattle.std.specs.Prelude.{ℕ, suc, ◌+◌, ◌*◌, ◌≤◌, ◌<◌, ◌≡◌, Bool, true, false, ◌&&◌, ◌||◌, ◌↔◌, List, [], ◌∷◌, leb, length, get_or, Result, Ok, Err}
 use Rattle.std.proofs.Math.Path.{refl, sym, ap, ap₂}
-use Rattle.std.proofs.Common.{subst, ◌∙◌, arith}
+use Rattle.std.proofs.Common.{subst, ◌∙◌, arith, leb-true, lt-ltb, le-ltb, ltb-false}
 use Rattle.std.proofs.Math.Dec.{ltb}
-use borrow.Author.Tests.{leb-true, lt-ltb, le-ltb, ltb-false}
+use Rattle.parts.specs.Faults.{fault_number}
+use Rattle.parts.specs.declared.faults.Refusal.{Refusal}
+use Rattle.nets.specs.declared.whole.Lengths.{Lengths}
 use Rattle.parts.specs.Limits.{text_max, identifier_max, arity_max, face_max, net_equations_max, net_cells_max, net_names_max}
 use Rattle.model.specs.State.{St, zeros}
 use Rattle.model.proofs.Beneath.Facts.{zeros-length, zero_at}
@@ -34,7 +36,6 @@ use Rattle.terms.proofs.Main.{holds-nothing}
 use Rattle.loading.specs.OnSheet.{net_on, Lent, Ready}
 use Rattle.net_lines.specs.Draft.{named, Draft}
 use Rattle.nets.specs.Answer.{filled, kept, sound_table, call_by, net_call}
-use Rattle.nets.specs.Drafted.{Drafted}
 use Rattle.nets.specs.Reading.{outcome, Start, TextRead}
 use Rattle.nets.specs.Proofs.OnSheet.{net_on_lem, names_on}
 use Rattle.nets.specs.Proofs.Wholes.{cells-few}
@@ -127,7 +128,6 @@ module _ (w : List ℕ) (g : Given w) where
     starts sh cs ms h c n l k =
         record {
           fit = record { short = short; arities = ap (all (λ a. leb a.arity arity_max)) part_is ∙ narrow };
-          lent = given-lent;
           same = given_same;
           draft = draft_none text (agents_of part) sh cs h c n l;
           long = k;
@@ -152,26 +152,18 @@ module _ (text w : List ℕ) (s : St) where
   unfolding net_call net_read read_net
   call-read h l = rw (h, le-ltb text_max (length text) l)
 
-  module _ (ags : List Agent) (sound : sound_table w ≡ true) (short : length text ≤ text_max) (same' : agents_in w ≡ ags) (n l f k : ℕ) (sh : Sheet) (cs ms : List ℕ)
-      (t : TextRead text ags (net_of_lines ags (lines text)) n l f k sh cs ms) where
-    by_text : net_call text w s ≡ call_by ags s (outcome n l t.net)
-    by_text = call-read sound short ∙ ap (λ a. call_by a s (net_of_lines a (lines text))) same' ∙ ap (call_by ags s) t.told
+  module _ (ags : List Agent) (sound : sound_table w ≡ true) (short : length text ≤ text_max) (same' : agents_in w ≡ ags) (sh : Sheet) (cs ms : List ℕ) where
+    by_text : {r : Result Lengths Refusal} (t : TextRead text ags (net_of_lines ags (lines text)) r sh cs ms) → net_call text w s ≡ call_by ags s (outcome r t.net)
+    by_text t = call-read sound short ∙ ap (λ a. call_by a s (net_of_lines a (lines text))) same' ∙ ap (call_by ags s) t.told
 
-    pub call-refused : ¬ (n ≡ 0) → kept n l s ≡ net_call text w s
-    unfolding call_by outcome
-    call-refused h = go n h ∙ sym by_text
-      where
-        go : (n : ℕ) → ¬ (n ≡ 0) → kept n l s ≡ call_by ags s (outcome n l t.net)
-        go ℕ.zero h = absurd (h refl)
-        go (ℕ.suc n) h = refl
+    pub call-refused : {r : Refusal} → TextRead text ags (net_of_lines ags (lines text)) (Err r) sh cs ms → kept (fault_number r.fault) r.line s ≡ net_call text w s
+    unfolding call_by
+    call-refused t = sym (by_text t)
 
-    module _ (z : n ≡ 0) where
-      d : Drafted text ags sh cs ms t.net
-      d = t.drafted z
-
+    module _ {n : Lengths} (t : TextRead text ags (net_of_lines ags (lines text)) (Ok n) sh cs ms) where
       accepted_here : read_net ags text ≡ accepted t.net
-      unfolding read_net outcome
-      accepted_here = rw (le-ltb text_max (length text) short) (t.told ∙ rw z)
+      unfolding read_net
+      accepted_here = rw (le-ltb text_max (length text) short) t.told
 
       small : big_net ags t.net ≡ false
       small = net-good-small ags t.net ((net-text-accepted ags text t.net).0 accepted_here).1
@@ -194,21 +186,20 @@ module _ (text w : List ℕ) (s : St) where
             names = ltb-false net_names_max (length (different (names_of ags (net_terms t.net)))) c.1;
           }
 
-      pub call-ready : Lent w → Ready w sh f k
-      call-ready lent =
+      pub call-ready : Ready sh n.faces n.equations
+      call-ready =
           let e = sizes in
           record {
-            lent = lent;
-            cells = cells-few text ags sh cs ms t.net d;
-            names = (let a = names_on text ags sh cs t.net d.draft in let b = e.names in omega (arith, a, b));
-            faces = (let a = t.faces z in let b = e.faces in omega (arith, a, b));
-            equations = (let a = t.equations z in let b = e.equations in omega (arith, a, b));
+            cells = cells-few text ags sh cs ms t.net t.drafted;
+            names = (let a = names_on text ags sh cs t.net t.drafted.draft in let b = e.names in omega (arith, a, b));
+            faces = (let a = t.faces in let b = e.faces in omega (arith, a, b));
+            equations = (let a = t.equations in let b = e.equations in omega (arith, a, b));
           }
 
-      pub call-filled : (s₁ : St) → s₁ ≡ loaded (net_on (agents_in w) sh cs f k) → filled s₁ ≡ net_call text w s
-      unfolding call_by outcome
+      pub call-filled : (s₁ : St) → s₁ ≡ loaded (net_on (agents_in w) sh cs n.faces n.equations) → filled s₁ ≡ net_call text w s
+      unfolding call_by
       call-filled s₁ e =
           ap filled
           (e
-          ∙ ap loaded (ap (λ a. net_on a sh cs f k) same' ∙ ap₂ (net_on ags sh cs) (t.faces z) (t.equations z) ∙ net_on_lem text ags sh cs t.net d.draft))
-          ∙ sym (by_text ∙ rw z)
+          ∙ ap loaded (ap (λ a. net_on a sh cs n.faces n.equations) same' ∙ ap₂ (net_on ags sh cs) t.faces t.equations ∙ net_on_lem text ags sh cs t.net t.drafted.draft))
+          ∙ sym (by_text t)

@@ -1,9 +1,7 @@
 -- What stands on the sheet and in the codes of a draft is the net as the machine loads it.
-use Rattle.std.specs.Prelude.{ℕ, suc, ◌+◌, ◌*◌, ◌<◌, pred, refl, true, eqb, ltb, get_or}
+use Rattle.std.specs.Prelude.{ℕ, suc, ◌+◌, ◌*◌, ◌<◌, pred, refl, true, eqb, ltb, get_or, List, [], ◌∷◌, ◌++◌, map}
 use Rattle.std.proofs.Math.Path.{◌≡◌, sym, ap, ap₂}
-use Rattle.std.proofs.Common.{◌∙◌, get_or-take, get_or-append-add, eqb-true}
-use mathlib.Core.List.{List, [], ◌∷◌, ◌++◌, map, append-nil}
-use native.Mathlib.Omega.{arith}
+use Rattle.std.proofs.Common.{◌∙◌, get_or-take, get_or-append-add, eqb-true, append-nil, arith}
 use Rattle.std.proofs.Math.ListN.{length, take, length-append, get_or-append}
 use Rattle.parts.specs.Limits.{arity_max}
 use Rattle.parts.specs.Sides.{Side, name, Pair, ◌:=◌, code, side}

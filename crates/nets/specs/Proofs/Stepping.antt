@@ -1,89 +1,70 @@
 -- One line of a net text after another: what the line cutter says of it, the marks, and each way out of a step.
-use Prim.Native.Nat.{ℕ, suc, ◌+◌, ◌≤◌, ◌<◌}
-use Rattle.std.specs.Prelude.{◌≡◌, refl, Bool, true, cond, List, [], ◌∷◌, ◌++◌, leb, ltb, length, get_or, take}
-use Rattle.std.proofs.Common.{sym, ap₂, ◌∙◌, arith, length-set, drop-drop, drop_at, length-take-le, get_or-set_same, get_or-set_other, ltb-true}
-use Rattle.std.proofs.Math.Path.{ap}
-use Rattle.std.proofs.Math.Bool.{false}
-use Rattle.std.proofs.Math.ListN.{drop, set}
+use Rattle.std.specs.Prelude.{ℕ, suc, ◌+◌, ◌≤◌, ◌<◌, ◌≡◌, refl, Bool, true, false, cond, List, [], ◌∷◌, ◌++◌, leb, ltb, length, get_or, take, drop, set, Option, Some, None, Result, Ok, Err, ⊤}
+use Rattle.std.proofs.Common.{sym, ap, ap₂, ◌∙◌, arith, length-set, drop-drop, drop_at, length-take-le, get_or-set_same, get_or-set_other, ltb-true}
 use Rattle.parts.specs.Limits.{net_equations_max}
+use Rattle.parts.specs.declared.faults.Fault.{Fault}
+use Rattle.parts.specs.declared.faults.Fault.TheVariants.{BadByte}
 use Rattle.texts.specs.Bytes.{lines, fault2, different}
 use Rattle.texts.specs.Terms.{Term}
 use Rattle.texts.specs.Books.{Agent, Net, net_terms}
-use Rattle.texts.specs.Answers.{fine, fault, refuse}
+use Rattle.texts.specs.Answers.{refuse}
 use Rattle.texts.specs.NetText.{eq_line, net_lines}
 use Rattle.texts.specs.Bytes.{ended_line}
 use Rattle.scan.specs.Places.{place, is}
 use Rattle.scan.specs.Cutting.{up_to, next_line}
-use Rattle.scan.proofs.Beneath.Cutting.{cut-mark, ended_line_lem, unended_line, no_line}
-use Rattle.scan.specs.declared.cutting.NextLine.{NextLine}
-use Rattle.scan.specs.declared.cutting.NextLine.TheVariants.{Ended, Unended, Nothing}
+use Rattle.scan.proofs.Beneath.Cutting.{cut-mark, ended_line_lem, unended_line, unended_fault, no_line}
 use Rattle.table.specs.Laws.Lists.{tab_cong, tab-snoc}
 use Rattle.terms.specs.Sheet.{Sheet}
 use Rattle.lines.specs.Names.{between}
 use Rattle.twice.specs.Marks.{marks_from}
 use Rattle.twice.specs.Proofs.Lines.{names_all, net-names, marks_more}
 use Rattle.net_lines.specs.Draft.{Draft}
-use Rattle.net_lines.specs.Judging.{verdict, Stands, Fit}
+use Rattle.net_lines.specs.Judging.{Stands, Fit}
 use Rattle.net_lines.specs.Records.{EqRead}
 use Rattle.nets.specs.Drafted.{marked, Drafted}
-use Rattle.nets.specs.Reading.{Stepped, Moved}
-use Rattle.nets.specs.declared.rest.EqStep.TheVariants.{Done, Fault, Next}
+use Rattle.nets.specs.Reading.{StepFault, StepNext, Stepped, Moved}
 
 -- A newline stands where an ended line ends.
-end_of : NextLine → ℕ
-end_of (Ended e) = e
-end_of Unended = 0
-end_of Nothing = 0
-
 mark_at : (l : List ℕ) → place (is 10) l < length l → drop (place (is 10) l) l ≡ 10 ∷ drop (suc (place (is 10) l)) l
 unfolding up_to
 mark_at l h =
     sym (ap (drop (place (is 10) l)) (cut-mark 10 l h))
     ∙ drop_at (take (place (is 10) l) l) (10 ∷ drop (suc (place (is 10) l)) l) (place (is 10) l) (length-take-le (place (is 10) l) l (omega (arith, h)))
 
-newline : (text : List ℕ) (at e : ℕ) → next_line text at ≡ Ended e → drop e text ≡ 10 ∷ drop (suc e) text
-unfolding next_line end_of
+newline : (text : List ℕ) (at e : ℕ) → next_line text at ≡ Ok (Some e) → drop e text ≡ 10 ∷ drop (suc e) text
+unfolding next_line
 newline text at e h = go (leb (length text) at) (ltb (place (is 10) (drop at text)) (length (drop at text))) refl h
   where
     go : (t u : Bool) → ltb (place (is 10) (drop at text)) (length (drop at text)) ≡ u
-        → cond t Nothing (cond u (Ended (at + place (is 10) (drop at text))) Unended) ≡ Ended e → drop e text ≡ 10 ∷ drop (suc e) text
-    go true u k q = absurd (let z : ◌≡◌ {A = ℕ} 0 1 = cc in omega arith)
+        → cond t (Ok None) (cond u (Ok (Some (at + place (is 10) (drop at text)))) (Err BadByte)) ≡ Ok (Some e) → drop e text ≡ 10 ∷ drop (suc e) text
+    go true u k q = absurd cc
     go false true k q =
-        let z : e ≡ at + place (is 10) (drop at text) = sym (ap end_of q) in
+        let z : e ≡ at + place (is 10) (drop at text) = cc in
         ap (λ n. drop n text) z
         ∙ sym (drop-drop (place (is 10) (drop at text)) at text)
         ∙ mark_at (drop at text) (ltb-true (place (is 10) (drop at text)) (length (drop at text)) k)
         ∙ ap (λ l. 10 ∷ l) (drop-drop (suc (place (is 10) (drop at text))) at text ∙ ap (λ n. drop n text) (let y : at + suc (place (is 10) (drop at text)) ≡ suc e = omega (arith, z) in y))
-    go false false k q = absurd (let z : ◌≡◌ {A = ℕ} 0 1 = cc in omega arith)
+    go false false k q = absurd cc
 
-module _ (text : List ℕ) (at : ℕ) (r : NextLine) (er : r ≡ next_line text at) where
-  pub ended-stands : {e : ℕ} → r ≡ Ended e → Stands text at e
+module _ (text : List ℕ) (at : ℕ) (r : Result (Option ℕ) Fault) (er : r ≡ next_line text at) where
+  pub ended-stands : {e : ℕ} → r ≡ Ok (Some e) → Stands text at e
   ended-stands {e} h =
       let l = ended_line_lem text at er h in
       record { begins = l.begins; within = l.within; ended = newline text at e (sym er ∙ h) }
 
-  pub ended_here : {e : ℕ} → r ≡ Ended e → lines (drop at text) ≡ ended_line (between text at e) ∷ lines (drop (e + 1) text)
+  pub ended_here : {e : ℕ} → r ≡ Ok (Some e) → lines (drop at text) ≡ ended_line (between text at e) ∷ lines (drop (e + 1) text)
   ended_here {e} h =
       let l = ended_line_lem text at er h in
       l.rest ∙ ap₂ (λ b n. ended_line b ∷ lines (drop n text)) l.bytes (let z : suc e ≡ e + 1 = omega arith in z)
 
-  pub ended-begins : (e : ℕ) → r ≡ Ended e → at ≤ e
+  pub ended-begins : (e : ℕ) → r ≡ Ok (Some e) → at ≤ e
   ended-begins e h = (ended-stands h).begins
 
-  pub ended-within : (e : ℕ) → r ≡ Ended e → e ≤ length text
+  pub ended-within : (e : ℕ) → r ≡ Ok (Some e) → e ≤ length text
   ended-within e h = let l = (ended-stands h).within in omega (arith, l)
 
-  pub ended-next : (e : ℕ) → r ≡ Ended e → e + 1 ≤ length text
+  pub ended-next : (e : ℕ) → r ≡ Ok (Some e) → e + 1 ≤ length text
   ended-next e h = let l = (ended-stands h).within in omega (arith, l)
-
-pub verdict-fault : {A : Type 0} (n : ℕ) (a : A) → ¬ (n ≡ 0) → verdict n a ≡ fault n
-unfolding verdict
-verdict-fault ℕ.zero a h = absurd (h refl)
-verdict-fault (ℕ.suc n) a h = refl
-
-pub verdict-fine : {A : Type 0} (n : ℕ) (a : A) → n ≡ 0 → verdict n a ≡ fine a
-unfolding verdict
-verdict-fine n a h = rw h
 
 -- An unended line has number 2.
 pub unended : (l : List ℕ) → fault2 (record { bytes = l; ended = false }) ≡ true
@@ -113,67 +94,53 @@ module _ (text : List ℕ) (ags : List Agent) (s s₁ : Sheet) (cs cs₁ ms ms�
       }
 
 -- Each way out of a step.
-module _ (text : List ℕ) (ags : List Agent) (at f k : ℕ) (r : NextLine) (er : r ≡ next_line text at) (m : Net) where
-  pub step-done : (s : Sheet) (cs ms : List ℕ) → r ≡ Nothing → Drafted text ags s cs ms m → Stepped text ags at m Done s cs ms
-  unfolding Stepped
+module _ (text : List ℕ) (ags : List Agent) (at f k : ℕ) (r : Result (Option ℕ) Fault) (er : r ≡ next_line text at) (m : Net) where
+  pub step-done : (s : Sheet) (cs ms : List ℕ) → r ≡ Ok None → Drafted text ags s cs ms m → Stepped text ags at m (Ok None) s cs ms
   step-done s cs ms h d = (no_line text at er h, d)
 
-  pub step_unended : (s : Sheet) (cs ms : List ℕ) → r ≡ Unended → Stepped text ags at m (Fault 2) s cs ms
-  unfolding Stepped eq_line refuse
-  step_unended s cs ms h =
+  pub step_unended : {g : Fault} → r ≡ Err g → StepFault text ags at m g
+  unfolding eq_line refuse
+  step_unended {g} h =
       record {
         line = record { bytes = drop at text; ended = false };
         rest = [];
         here = unended_line text at er h;
-        faulty = rw (unended (drop at text));
-        some = λ z. absurd (omega arith);
+        faulty = rw (unended (drop at text), unended_fault text at er h);
       }
 
-  module _ (e : ℕ) (h : r ≡ Ended e) (n : ℕ) (s s₁ : Sheet) (cs cs₁ ms : List ℕ)
-      (j : (m : Net) → Stands text at e → Fit text ags → Draft text ags s cs (net_terms m) → f ≡ length m.face → k ≡ length m.equations → EqRead text ags m (between text at e) n s₁ cs₁)
-      (fit : Fit text ags) (d : Drafted text ags s cs ms m) (ef : f ≡ length m.face) (ek : k ≡ length m.equations) where
-    read : EqRead text ags m (between text at e) n s₁ cs₁
-    read = j m (ended-stands text at r er h) fit d.draft ef ek
+  module _ (e : ℕ) (h : r ≡ Ok (Some e)) (s s₁ : Sheet) (cs cs₁ ms : List ℕ) (fit : Fit text ags) (d : Drafted text ags s cs ms m) (ef : f ≡ length m.face) (ek : k ≡ length m.equations) where
+    -- what the reader of an `eq` line says where it is called
+    read : {q : Result ⊤ Fault}
+        → ((m : Net) → Stands text at e → Fit text ags → Draft text ags s cs (net_terms m) → f ≡ length m.face → k ≡ length m.equations → EqRead text ags m (between text at e) q s₁ cs₁)
+        → EqRead text ags m (between text at e) q s₁ cs₁
+    read j = j m (ended-stands text at r er h) fit d.draft ef ek
 
-    pub step-fault : ¬ (n ≡ 0) → (s₂ : Sheet) (cs₂ ms₂ : List ℕ) → Stepped text ags at m (Fault n) s₂ cs₂ ms₂
-    unfolding Stepped
-    step-fault b s₂ cs₂ ms₂ =
+    pub step-fault : {g : Fault}
+        → ((m : Net) → Stands text at e → Fit text ags → Draft text ags s cs (net_terms m) → f ≡ length m.face → k ≡ length m.equations → EqRead text ags m (between text at e) (Err g) s₁ cs₁)
+        → StepFault text ags at m g
+    step-fault {g} j =
+        record { line = ended_line (between text at e); rest = lines (drop (e + 1) text); here = ended_here text at r er h; faulty = (read j).told }
+
+    pub step-next : {u : ⊤}
+        → ((m : Net) → Stands text at e → Fit text ags → Draft text ags s cs (net_terms m) → f ≡ length m.face → k ≡ length m.equations → EqRead text ags m (between text at e) (Ok u) s₁ cs₁)
+        → k < net_equations_max → (v : ℕ) → v ≡ s₁.names → StepNext text ags at m (e + 1) s₁ cs₁ (set ms (k + 1) v)
+    step-next {u} j few v ev =
+        let o : EqRead text ags m (between text at e) (Ok u) s₁ cs₁ = read j in
         record {
           line = ended_line (between text at e);
-          rest = lines (drop (e + 1) text);
+          net = o.net;
           here = ended_here text at r er h;
-          faulty = read.told ∙ verdict-fault n read.net b;
-          some = b;
-        }
-
-    pub step-next : n ≡ 0 → (n ≡ 0 → k < net_equations_max) → (v : ℕ) (ms₁ : List ℕ) → v ≡ s₁.names → ms₁ ≡ set ms (k + 1) v → Stepped text ags at m (Next (e + 1)) s₁ cs₁ ms₁
-    unfolding Stepped
-    step-next z few v ms₁ ev em =
-        record {
-          line = ended_line (between text at e);
-          net = read.net;
-          here = ended_here text at r er h;
-          fair = read.told ∙ verdict-fine n read.net z;
+          fair = o.told;
           drafted =
-              drafted_more text ags s s₁ cs cs₁ ms ms₁ m read.net read.terms v d (read.draft z) (read.more z) (read.one z)
-              (let q = few z in omega (arith, q, ek)) (em ∙ ap (λ i. set ms i v) (let y : k + 1 ≡ suc (length m.equations) = omega (arith, ek) in y)) ev;
-          face = read.face;
-          one = read.one z;
+              drafted_more text ags s s₁ cs cs₁ ms (set ms (k + 1) v) m o.net o.terms v d o.draft o.more o.one
+              (omega (arith, few, ek)) (ap (λ i. set ms i v) (let y : k + 1 ≡ suc (length m.equations) = omega (arith, ek) in y)) ev;
+          face = o.face;
+          one = o.one;
         }
 
-module _ (text : List ℕ) (at k : ℕ) where
-  pub moved-done : Moved text at k Done
-  unfolding Moved
-  moved-done = Prim.tt
-
-  pub moved-fault : (n : ℕ) → Moved text at k (Fault n)
-  unfolding Moved
-  moved-fault n = Prim.tt
-
-  pub moved-next : (r : NextLine) (e n : ℕ) → r ≡ next_line text at → r ≡ Ended e → n ≡ 0 → (n ≡ 0 → k < net_equations_max) → Moved text at k (Next (e + 1))
-  unfolding Moved
-  moved-next r e n er h z few =
-      let st = ended-stands text at r er h in
-      let a = st.begins in
-      let b = st.within in
-      (omega (arith, a), omega (arith, b), few z)
+pub moved-next : (text : List ℕ) (at k : ℕ) (r : Result (Option ℕ) Fault) (e : ℕ) → r ≡ next_line text at → r ≡ Ok (Some e) → k < net_equations_max → Moved text at k (Ok (Some (e + 1)))
+moved-next text at k r e er h few =
+    let st = ended-stands text at r er h in
+    let a = st.begins in
+    let b = st.within in
+    (omega (arith, a), omega (arith, b), few)

@@ -1,8 +1,10 @@
 -- Why the theorems about the call hold.
-use Rattle.std.specs.Prelude.{ℕ, ◌≤◌, ◌≡◌, refl, false, ◌↔◌, List, length}
+use Rattle.std.specs.Prelude.{ℕ, ◌≤◌, ◌≡◌, refl, false, ◌↔◌, List, length, Result, Ok, Err, ⊤}
 use Rattle.std.proofs.Common.{sym, ◌∙◌, arith}
-use Rattle.std.proofs.Math.Path.{ap}
+use Rattle.std.proofs.Math.Path.{ap, ap₂}
 use Rattle.parts.specs.Limits.{text_max}
+use Rattle.parts.specs.Faults.{same_fault}
+use Rattle.parts.specs.declared.faults.Refusal.{Refusal}
 use Rattle.calculus.specs.Nets.{◌≈◌}
 use Rattle.model.specs.State.{St}
 use Rattle.model.specs.Load.{loaded}
@@ -20,8 +22,6 @@ use Rattle.table.specs.Layout.{agents_in, table_bytes}
 use Rattle.table.specs.Given.{Given}
 use Rattle.nets.specs.Answer.{Call, filled, kept, told, sound_table, call_by, net_call}
 use Rattle.nets.specs.Proofs.Calls.{given-sound, given-agents}
-use Rattle.nets.specs.declared.NetAnswer.{NetAnswer}
-use Rattle.nets.specs.declared.NetAnswer.TheVariants.{Accepted, Refused}
 
 -- The parts of a call.
 call_number : Call → ℕ
@@ -98,9 +98,9 @@ loaded_by text b g s s₁ e = go (read_net b.agents text) refl (sym (called b g 
     go (accepted n) q r = let p = (net-text-accepted b.agents text n).0 q in (n, p.1, p.0, p.2, sym (ap state_of r))
     go (refused i j) q r = absurd (let z : ◌≡◌ {A = ℕ} 1 0 = ap is_kept r in omega arith)
 
-pub one_answer : (a b : NetAnswer) (s t : St) → told a s ≡ told b t → (a ≡ b) × (s ≡ t)
-unfolding call_number line_of state_of is_kept
-one_answer Accepted Accepted s t e = (refl, ap state_of e)
-one_answer Accepted (Refused n l) s t e = absurd (let z : ◌≡◌ {A = ℕ} 0 1 = ap is_kept e in omega arith)
-one_answer (Refused n l) Accepted s t e = absurd (let z : ◌≡◌ {A = ℕ} 1 0 = ap is_kept e in omega arith)
-one_answer (Refused n l) (Refused i j) s t e = (rw (ap call_number e, ap line_of e), ap state_of e)
+pub one_answer : (a b : Result ⊤ Refusal) (s t : St) → told a s ≡ told b t → (a ≡ b) × (s ≡ t)
+unfolding call_number line_of state_of
+one_answer (Ok u) (Ok v) s t e = (refl, ap state_of e)
+one_answer (Ok u) (Err r) s t e = absurd cc
+one_answer (Err r) (Ok v) s t e = absurd cc
+one_answer (Err r) (Err q) s t e = (ap Err (ap₂ (λ f l. record { fault = f; line = l }) (same_fault r.fault q.fault (ap call_number e)) (ap line_of e)), ap state_of e)

@@ -1,6 +1,6 @@
 -- `putting::kept_side` meets its contract.
 use Rattle.putting.proofs.Stores.{side-past, side-kept}
-use borrow.Author.Rules.{rules}
+use Rattle.std.proofs.Common.{rules}
 use Rattle.putting.proofs.kept_side.Goals as goal
 
 pub returns-then-n-p : goal.returns-then-n-p

@@ -1,6 +1,6 @@
 -- `putting::put_numbers` meets its contract.
 use Rattle.putting.proofs.Stores.{put_rule_way}
-use borrow.Author.Rules.{rules}
+use Rattle.std.proofs.Common.{rules}
 use Rattle.putting.proofs.put_numbers.Goals as goal
 
 pub returns : goal.returns

@@ -1,7 +1,8 @@
 -- Each call has one answer.
-use Rattle.std.specs.Prelude.{ℕ, ◌≡◌, refl, Bool, true, false, List, ◌↔◌, length}
+use Rattle.std.specs.Prelude.{ℕ, ◌≡◌, refl, Bool, true, false, List, ◌↔◌, length, Ok, Err}
 use Rattle.std.proofs.Common.{sym, ap, subst, ◌∙◌, arith}
 use Rattle.parts.specs.Limits.{table_size}
+use Rattle.parts.specs.Faults.{fault_number}
 use Rattle.texts.specs.Books.{Book}
 use Rattle.texts.specs.Answers.{OfText, accepted, refused}
 use Rattle.texts.specs.RuleText.{read_rules}
@@ -19,52 +20,56 @@ use Rattle.table.specs.Layout.{table_bytes}
 use Rattle.table.specs.Laws.Whole.{nothing-bytes}
 use Rattle.lent.specs.Both.{BothSound, sound_table_lem, sound-state}
 use Rattle.lent.specs.Decided.{decided}
-use Rattle.rules.specs.declared.RulesAnswer.{RulesAnswer}
-use Rattle.rules.specs.declared.RulesAnswer.TheVariants as Rule
+use Rattle.parts.specs.declared.faults.Fault.TheVariants as Why
+use Rattle.review.specs.Answers.{TextAnswer, refused_on, StepAnswer, RunAnswer}
+use Rattle.review.proofs.Beneath.Numbers.{rule_fault, net_fault, rules-refused}
+use Rattle.texts.specs.Refused.{RulesRefused}
+use Rattle.texts.proofs.Main as Texts
 use Rattle.rules.proofs.Main as Rules
 use Rattle.rules.specs.Answer.{refusal, leaves, leaves_by, rules_read}
-use Rattle.nets.specs.declared.NetAnswer.{NetAnswer}
-use Rattle.nets.specs.declared.NetAnswer.TheVariants as Net
 use Rattle.nets.specs.Answer.{Call, filled, kept, sound_table, net_call}
 use Rattle.nets.specs.Main as Nets
 use Rattle.machine.specs.Calls.{out, step_told, run_told}
-use Rattle.machine.specs.declared.calls.StepAnswer.{StepAnswer}
-use Rattle.machine.specs.declared.calls.StepAnswer.TheVariants as Step
-use Rattle.machine.specs.declared.calls.RunAnswer.{RunAnswer}
-use Rattle.machine.specs.declared.calls.RunAnswer.TheVariants as Run
 use Rattle.answer.specs.Main as Answers
 use Rattle.evaluation.specs.Evaluated.{evaluated}
 use Rattle.review.specs.Promises.{StateArray, RulesCall, NetCall, StepCall, RunCall, AnswerCall, EvaluateCall, TableTest, BothTest, EmptyState, EmptyTable, One, Any}
 use Rattle.review.proofs.Beneath.Reads.{answer_some, answer_comes, answer_leaves}
 use Rattle.review.proofs.Beneath.Told.{step-alike, run-alike}
 use Rattle.review.proofs.Beneath.Arrays.{array_of, view_of_array}
-use Rattle.review.proofs.Beneath.Steps.{StepIf, step_leaves, moves_to, step_some, step_comes, RunIf, run_leaves, run_some, run_comes}
+use Rattle.review.proofs.Beneath.Steps.{StepIf, if_moves, step_leaves, moves_to, step_some, step_comes, RunIf, if_stops, run_leaves, run_some, run_comes}
 
-some_rules : (text table : List ℕ) → (r : RulesAnswer) × (u : List ℕ) × RulesCall text table r u
+some_rules : (text table : List ℕ) → (r : TextAnswer) × (u : List ℕ) × RulesCall text table r u
 unfolding rules_read leaves refusal leaves_by
 some_rules text table = go (read_rules text) refl
   where
-    go : (x : OfText Book) → read_rules text ≡ x → (r : RulesAnswer) × (u : List ℕ) × RulesCall text table r u
-    go (accepted b) e = (Rule.Accepted, table_bytes b, record { promised = rw e })
-    go (refused n k) e = (Rule.Refused n k, table, record { promised = rw e })
+    go : (x : OfText Book) → read_rules text ≡ x → (r : TextAnswer) × (u : List ℕ) × RulesCall text table r u
+    go (accepted b) e = (Ok tt, table_bytes b, record { promised = rw e })
+    go (refused n k) e =
+        let r = (Texts.rule-text-refused text n k).0 e in
+        let f = rule_fault r in
+        let q : RulesRefused text (fault_number f.0) k = subst (λ m. RulesRefused text m k) (sym f.1) r in
+        (refused_on f.0 k, table, (rules-refused text table table f.0 k).1 (q, refl))
 
-some_net : (text w v : List ℕ) → (r : NetAnswer) × (v' : List ℕ) × NetCall text w v r v'
+some_net : (text w v : List ℕ) → (r : TextAnswer) × (v' : List ℕ) × NetCall text w v r v'
 some_net text w v = go (net_call text w (view v)) refl (sound_table w) refl
   where
     filled-kept : {A : Type 0} {s t : St} {n l : ℕ} → filled s ≡ kept n l t → A
     filled-kept e = absurd (let z : ◌≡◌ {A = ℕ} 0 1 = cc in omega arith)
 
     go : (k : Call) → net_call text w (view v) ≡ k → (b : Bool) → sound_table w ≡ b
-        → (r : NetAnswer) × (v' : List ℕ) × NetCall text w v r v'
-    go (kept n l s) e b f =
+        → (r : TextAnswer) × (v' : List ℕ) × NetCall text w v r v'
+    go (kept n l s) e true f =
         let q = Nets.refused_keeps text w (view v) s n l e in
-        (Net.Refused n l, v, record { promised = ap (kept n l) (sym q) ∙ sym e })
+        let r = (Nets.refused-exact text w (view v) ((Nets.sound-exact w).0 f) n l).0 (e ∙ ap (kept n l) q) in
+        let g = net_fault r in
+        (refused_on g.0 l, v, record { promised = ap (λ m. kept m l (view v)) g.1 ∙ ap (kept n l) (sym q) ∙ sym e })
+    go (kept n l s) e false f = (refused_on Why.Unsound 0, v, record { promised = sym (Nets.unsound_16 text w (view v) f) })
     go (filled s) e false f = filled-kept (sym e ∙ Nets.unsound_16 text w (view v) f)
     go (filled s) e true f =
         let g = (Nets.sound-exact w).0 f in
         let l = Nets.accepted-loads text g.0 g.1 (view v) s (subst (λ u. net_call text u (view v) ≡ filled s) g.2 e) in
         let q = view_of_array s (rw l.state l.sound.sizes) in
-        (Net.Accepted, array_of s, record { promised = ap filled q ∙ sym e })
+        (Ok tt, array_of s, record { promised = ap filled q ∙ sym e })
 
 some_step : (w v : List ℕ) (p : ℕ) → (r : StepAnswer) × (v' : List ℕ) × StepCall w v p r v'
 some_step w v p =
@@ -73,12 +78,11 @@ some_step w v p =
     (k.0, u.0, record { promised = ap (out (step_told k.0)) u.1 ∙ sym (step_comes w v p k.0 k.1) })
   where
     holds : (q : StepAnswer) → StepIf w v p q → (u : List ℕ) × (view u ≡ step_leaves w v p q)
-    holds Step.Unsound i = (v, refl)
-    holds Step.NoPick i = (v, refl)
-    holds Step.NoRoom i = (v, refl)
-    holds Step.Moved i =
+    holds (Err f) i = (v, refl)
+    holds (Ok u) k =
+        let i = if_moves w v p k in
         let z = step_sound (sound_table_lem i.0) (sound-state i.0) p (moves_to w v p i) in
-        (array_of (step_leaves w v p Step.Moved), view_of_array (step_leaves w v p Step.Moved) z.sizes)
+        (array_of (step_leaves w v p (Ok tt)), view_of_array (step_leaves w v p (Ok tt)) z.sizes)
 
 some_run : (w v : List ℕ) (budget : ℕ) → (r : RunAnswer) × (v' : List ℕ) × RunCall w v budget r v'
 some_run w v budget =
@@ -95,11 +99,8 @@ some_run w v budget =
         (array_of ran_to, view_of_array ran_to (walk_sound (sound_table_lem h) (sound-state h) k.walk).sizes)
 
     holds : (q : RunAnswer) → RunIf w v budget q → (u : List ℕ) × (view u ≡ run_leaves w v budget q)
-    holds Run.Unsound i = (v, refl)
-    holds Run.TooMuch i = (v, refl)
-    holds (Run.Ended n) i = on i.0
-    holds (Run.Paused n) i = on i.0
-    holds (Run.NoRoom n) i = on i.0
+    holds (Err f) i = (v, refl)
+    holds (Ok r) i = on (if_stops w v budget i).0
 
 -- A state that looks alike is alike in every word.
 pub same_state : {v w : List ℕ} → StateArray v → StateArray w → view v ≡ view w → v ≡ w

@@ -1,5 +1,5 @@
 -- A run made by calls of step, on lent arrays; and calls without end that begin with such calls.
-use Rattle.std.specs.Prelude.{ℕ, suc, ◌-◌, ◌<◌, List, [], ◌++◌, length}
+use Rattle.std.specs.Prelude.{ℕ, suc, ◌-◌, ◌<◌, List, [], ◌++◌, length, Ok, Err}
 use Rattle.std.proofs.Math.Path.{◌≡◌, refl, subst}
 use Rattle.std.proofs.Common.{sym, ap, ◌∙◌, arith, length-append}
 use Rattle.model.specs.State.{St}
@@ -17,9 +17,8 @@ use Rattle.sound.specs.Lent.{under}
 use Rattle.lent.specs.Both.{BothSound, table-given, sound_table_lem, sound-state, both_of}
 use Rattle.machine.specs.Calls.{out, answered, stopped, run_told}
 use Rattle.machine.specs.Calls as Calls
-use Rattle.machine.specs.declared.calls.StepAnswer.{StepAnswer}
-use Rattle.machine.specs.declared.calls.StepAnswer.TheVariants.{Moved, NoPick, NoRoom}
-use Rattle.machine.specs.declared.calls.RunAnswer.{RunAnswer}
+use Rattle.parts.specs.declared.faults.Fault.TheVariants as Why
+use Rattle.review.specs.Answers.{StepAnswer, RunAnswer}
 use Rattle.review.specs.Promises.{StepCall, RunCall}
 use Rattle.review.proofs.Beneath.Arrays.{array_of, view_of_array}
 use Rattle.review.specs.Picks.{fires, Picks, first_picks, Because, RunSteps, Calls}
@@ -40,7 +39,7 @@ pub record ByCalls (w v : List ℕ) {s s' : St} (k : Walk (under w) s s') : Type
   pub as_many : length fired ≡ made_in k
 
 one_call : (w v : List ℕ) (p : ℕ) (s : St) → BothSound w v → stepped (under w) (view v) p ≡ moved s
-    → (view (array_of s) ≡ s) × StepCall w v p Moved (array_of s)
+    → (view (array_of s) ≡ s) × StepCall w v p (Ok tt) (array_of s)
 one_call w v p s h e =
     let q = view_of_array s (step_sound (sound_table_lem h) (sound-state h) p e).sizes in
     (q, record { promised = ap (out Calls.made) q ∙ sym (step-asked w v p h ∙ ap (λ a. answered a (view v)) e) })
@@ -100,8 +99,8 @@ module _ {w : List ℕ} where
   pick_at (Picks.more c m) (ℕ.suc k) = pick_at m k
 
   pub answer_at : {v ps is v' : List ℕ} → Picks w v ps is v' → ℕ → StepAnswer
-  answer_at Picks.none k = NoPick
-  answer_at (Picks.more c m) ℕ.zero = Moved
+  answer_at Picks.none k = Err Why.NoPick
+  answer_at (Picks.more c m) ℕ.zero = Ok tt
   answer_at (Picks.more c m) (ℕ.suc k) = answer_at m k
 
   pub state_at : {v ps is v' : List ℕ} → Picks w v ps is v' → ℕ → List ℕ
@@ -114,7 +113,7 @@ module _ {w : List ℕ} where
   begins Picks.none = refl
   begins (Picks.more c m) = refl
 
-  idle : (v : List ℕ) → BothSound w v → (view v).waiting.used ≡ 0 → StepCall w v 0 NoPick v
+  idle : (v : List ℕ) → BothSound w v → (view v).waiting.used ≡ 0 → StepCall w v 0 (Err Why.NoPick) v
   idle v h e =
       record {
         promised =
@@ -125,7 +124,7 @@ module _ {w : List ℕ} where
       → StepCall w (state_at m k) (pick_at m k) (answer_at m k) (state_at m (suc k))
   unfolding state_at pick_at answer_at
   call_at {v = v} Picks.none h e k = idle v h e
-  call_at {v = v} (Picks.more {p = p} c m) h e ℕ.zero = subst (λ u. StepCall w v p Moved u) (sym (begins m)) c
+  call_at {v = v} (Picks.more {p = p} c m) h e ℕ.zero = subst (λ u. StepCall w v p (Ok tt) u) (sym (begins m)) c
   call_at (Picks.more c m) h e (ℕ.suc k) = call_at m (step_sound_after c) e k
 
   picks_at : {v ps is v' : List ℕ} (m : Picks w v ps is v') → (view v').waiting.used ≡ 0 → (k : ℕ)
@@ -135,7 +134,7 @@ module _ {w : List ℕ} where
   picks_at (Picks.more c m) e ℕ.zero o = (step_went c).1
   picks_at (Picks.more c m) e (ℕ.suc k) o = picks_at m e k o
 
-  room_at : {v ps is v' : List ℕ} (m : Picks w v ps is v') (k : ℕ) → ¬ (answer_at m k ≡ NoRoom)
+  room_at : {v ps is v' : List ℕ} (m : Picks w v ps is v') (k : ℕ) → ¬ (answer_at m k ≡ Err Why.NoRoom)
   unfolding answer_at
   room_at Picks.none k q = absurd (let z : ◌≡◌ {A = ℕ} 0 1 = cc in omega arith)
   room_at (Picks.more c m) ℕ.zero q = absurd (let z : ◌≡◌ {A = ℕ} 0 1 = cc in omega arith)

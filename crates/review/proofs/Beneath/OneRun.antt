@@ -1,5 +1,5 @@
 -- A run is determined: from one state, with one budget, picks 0 come to one stop.
-use Rattle.std.specs.Prelude.{length, ℕ, ◌+◌, ◌-◌, ◌≤◌, ◌<◌, ◌≡◌, refl, List, ◌↔◌}
+use Rattle.std.specs.Prelude.{length, ℕ, ◌+◌, ◌-◌, ◌≤◌, ◌<◌, ◌≡◌, refl, List, ◌↔◌, Err}
 use Rattle.std.proofs.Common.{length-append, sym, ap, ap₂, subst, ◌∙◌, arith}
 use Rattle.std.proofs.Math.Decide.{dec_lt}
 use Rattle.parts.specs.Limits.{budget_max}
@@ -15,11 +15,11 @@ use Rattle.state.specs.Layout.{view}
 use Rattle.sound.specs.Lent.{under}
 use Rattle.lent.specs.Both.{BothSound, table-given, sound_table_lem, sound-state, both_of}
 use Rattle.machine.specs.Calls.{number, stopped, out, run_told, ran_out}
-use Rattle.machine.specs.declared.calls.RunAnswer.{RunAnswer}
-use Rattle.machine.specs.declared.calls.RunAnswer.TheVariants as Run
+use Rattle.parts.specs.declared.faults.Fault.TheVariants as Why
+use Rattle.review.specs.Answers.{RunAnswer}
 use Rattle.review.specs.Promises.{RunCall}
 use Rattle.review.specs.Picks.{fires, Picks, first_picks, Because, RunSteps}
-use Rattle.review.proofs.Beneath.Steps.{step_went, run-asked, run_exactly, run-went}
+use Rattle.review.proofs.Beneath.Steps.{step_went, run-asked, RunIf, run_exactly, run-went}
 use Rattle.review.proofs.Beneath.Walking.{picks_walk, walk_keeps}
 use Rattle.review.proofs.Beneath.Made.{fires-made, run-steps}
 
@@ -159,7 +159,7 @@ run-within {w} {v} {budget} {r} {t = t} {n = n} c e = go (dec_lt budget_max budg
     go : Dec (budget_max < budget) → budget ≤ budget_max
     go (no o) = omega arith
     go (yes o) =
-        let q = (run_exactly c Run.TooMuch).1 ((run-went c t n e).0, o) in
+        let q = (run_exactly c (Err Why.LargeBudget)).1 (RunIf.too_much ((run-went c t n e).0, o)) in
         let k : number 17 ≡ stopped t n = ap run_told (sym q) ∙ e in
         absurd (let z : ◌≡◌ {A = ℕ} 0 1 = cc in omega arith)
 

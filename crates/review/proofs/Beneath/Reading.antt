@@ -19,7 +19,7 @@ use Rattle.table.specs.Layout.{table_bytes}
 use Rattle.state.specs.Layout.{view}
 use Rattle.sound.specs.Lent.{under}
 use Rattle.lent.specs.Both.{BothSound, under_is, sound_table_lem, sound-state}
-use Rattle.machine.specs.declared.calls.StepAnswer.TheVariants.{Moved}
+use Rattle.std.specs.Prelude.{Ok}
 use Rattle.review.specs.Promises.{StepCall}
 use Rattle.review.specs.Rulebook.{Written, ReadWritten}
 use Rattle.review.proofs.Beneath.Steps.{step_went}
@@ -42,7 +42,7 @@ module _ {T : Table} {b : Book} (written : (i : ℕ) (R : Calculus.Rule) → boo
   read (Follow.Labels.interaction_turned l e) (more (Step.interaction {i = i} {r = R} h c) done) q =
       ReadWritten.one_interaction (inr refl) (written i R h) c q
 
-pub step-reads : (b : Book) → GoodBook b → {w v : List ℕ} {p : ℕ} {v' : List ℕ} → w ≡ table_bytes b → StepCall w v p Moved v'
+pub step-reads : (b : Book) → GoodBook b → {w v : List ℕ} {p : ℕ} {v' : List ℕ} → w ≡ table_bytes b → StepCall w v p (Ok tt) v'
     → (h : BothSound w v) (k : BothSound w v')
     → ReadWritten b (rule_at (under w) (view v) p) (meaning (sound-state h)) (meaning (sound-state k))
 step-reads b g {w} {v} {p} q c h k =

@@ -1,5 +1,5 @@
 -- What accepted texts spell, and what the bytes of their tables stand for.
-use Rattle.std.specs.Prelude.{ℕ, ◌≤◌, ◌<◌, List, map, ◌↔◌, length}
+use Rattle.std.specs.Prelude.{ℕ, ◌≤◌, ◌<◌, List, map, ◌↔◌, length, Ok}
 use Rattle.std.proofs.Math.Path.{◌≡◌, refl, ap}
 use Rattle.std.proofs.Common.{sym, ap₂, subst, ◌∙◌, arith}
 use Rattle.std.proofs.Math.Decide.{dec_lt}
@@ -23,11 +23,9 @@ use Rattle.table.specs.Layout.{agents_in, bytes_of, table_bytes}
 use Rattle.table.specs.Layout as Layout
 use Rattle.sound.specs.Lent.{under}
 use Rattle.lent.specs.Both.{stands_for, under_is}
-use Rattle.rules.specs.declared.RulesAnswer.{RulesAnswer}
-use Rattle.rules.specs.declared.RulesAnswer.TheVariants as Rules
+use Rattle.review.specs.Answers.{TextAnswer}
 use Rattle.rules.proofs.Main as ReadRules
 use Rattle.rules.specs.Answer.{refusal, leaves, leaves_by, rules_read}
-use Rattle.nets.specs.declared.NetAnswer.TheVariants as Net
 use Rattle.nets.specs.Answer.{filled}
 use Rattle.nets.specs.Main as Nets
 use Rattle.review.specs.Promises.{RulesCall, NetCall}
@@ -36,36 +34,36 @@ use Rattle.review.specs.Rulebook.{Written}
 use Rattle.review.proofs.Beneath.Written.{to_written, from-written, rule_in, rule_before_end, only-table}
 use Rattle.review.proofs.Beneath.LoadedSo.{net-loaded-so, only-loaded, loaded-sound}
 
-pub same_refusal : {text table table' u u' : List ℕ} {r q : RulesAnswer} → RulesCall text table r u
+pub same_refusal : {text table table' u u' : List ℕ} {r q : TextAnswer} → RulesCall text table r u
     → RulesCall text table' q u' → refusal r ≡ refusal q
 unfolding leaves
 same_refusal {text} {table} {table'} c d =
     ap (λ x. x.said) c.promised ∙ (ReadRules.text_decides text table table' ∙ sym (ap (λ x. x.said) d.promised))
 
 module _ (text table u : List ℕ) where
-  pub book-spelt : RulesCall text table Rules.Accepted u
+  pub book-spelt : RulesCall text table (Ok tt) u
       → (b : Book) × (text ≡ print_book b) × GoodBook b × (length text ≤ text_max) × (u ≡ table_bytes b)
   unfolding leaves rules_read refusal leaves_by
   book-spelt c = go (read_rules text) refl c.promised
     where
-      go : (x : OfText Book) → read_rules text ≡ x → leaves Rules.Accepted u ≡ leaves_by x table
+      go : (x : OfText Book) → read_rules text ≡ x → leaves (Ok tt) u ≡ leaves_by x table
           → (b : Book) × (text ≡ print_book b) × GoodBook b × (length text ≤ text_max) × (u ≡ table_bytes b)
       go (accepted b) e k =
           let p = (Texts.rule-text-accepted text b).0 e in (b, p.0, p.1, p.2, ap (λ x. x.table) k)
       go (refused n j) e k = absurd (let z = ap (λ x. x.said) k in let y : ◌≡◌ {A = ℕ} 0 1 = cc in omega arith)
 
   pub spelt-book : (b : Book) → text ≡ print_book b → GoodBook b → length text ≤ text_max → u ≡ table_bytes b
-      → RulesCall text table Rules.Accepted u
+      → RulesCall text table (Ok tt) u
   unfolding leaves rules_read refusal leaves_by
   spelt-book b p g l q = record { promised = rw ((Texts.rule-text-accepted text b).1 (p, g, l), q) }
 
 pub spelt-net : (text : List ℕ) (b : Book) → GoodBook b → (v v' : List ℕ) (n : Net) → text ≡ print_net n
     → GoodNet b.agents n → length text ≤ text_max → view v' ≡ loaded (load b.agents n)
-    → NetCall text (table_bytes b) v Net.Accepted v'
+    → NetCall text (table_bytes b) v (Ok tt) v'
 spelt-net text b g v v' n p h l q =
     record { promised = ap filled q ∙ rw p (sym (Nets.good-accepted b g n h (subst (λ t. length t ≤ text_max) p l) (view v))) }
 
-pub net-spelt-so : (text : List ℕ) (b : Book) → GoodBook b → (v v' : List ℕ) → NetCall text (table_bytes b) v Net.Accepted v'
+pub net-spelt-so : (text : List ℕ) (b : Book) → GoodBook b → (v v' : List ℕ) → NetCall text (table_bytes b) v (Ok tt) v'
     → (n : Net)
     × (text ≡ print_net n)
     × GoodNet b.agents n

@@ -1,5 +1,5 @@
 -- What two accepted texts gave, and demand 3's premise over the written rules turned into one over the table.
-use Rattle.std.specs.Prelude.{ℕ, ◌≡◌, List}
+use Rattle.std.specs.Prelude.{ℕ, ◌≡◌, List, Ok}
 use Rattle.std.proofs.Common.{sym, ap, subst, ◌∙◌}
 use Rattle.calculus.specs.Calculus.{Label, Step, Valid}
 use Rattle.calculus.specs.Calculus as Calculus
@@ -25,19 +25,17 @@ use Rattle.state.specs.Layout.{view}
 use Rattle.table.specs.Layout.{table_bytes}
 use Rattle.sound.specs.Lent.{under}
 use Rattle.lent.specs.Both.{BothSound, under_is, both_of}
-use Rattle.rules.specs.declared.RulesAnswer.TheVariants as Rules
-use Rattle.nets.specs.declared.NetAnswer.TheVariants as Nets
 use Rattle.review.specs.Promises.{RulesCall, NetCall}
 use Rattle.review.specs.Picks.{Accepted, Ends}
 use Rattle.review.specs.Rulebook.{Written}
 use Rattle.review.proofs.Beneath.Spelt.{book-spelt, net-spelt-so}
 use Rattle.review.proofs.Beneath.Written.{to_written, from-written}
 
-pub both-spelt : (rules table w net state v : List ℕ) → RulesCall rules table Rules.Accepted w
-    → NetCall net w state Nets.Accepted v → Accepted rules net w v
+pub both-spelt : (rules table w net state v : List ℕ) → RulesCall rules table (Ok tt) w
+    → NetCall net w state (Ok tt) v → Accepted rules net w v
 both-spelt rules table w net state v r n =
     let (b, p, g, l, q) = book-spelt rules table w r in
-    let m = net-spelt-so net b g state v (subst (λ u. NetCall net u state Nets.Accepted v) q n) in
+    let m = net-spelt-so net b g state v (subst (λ u. NetCall net u state (Ok tt) v) q n) in
     record {
       book = b;
       spelt = m.0;
@@ -94,7 +92,7 @@ module _ {rules net w v : List ℕ} (a : Accepted rules net w v) where
 
   pub state_is : view v ≡ loaded (load a.book.agents a.spelt)
   state_is =
-      let c = subst (λ u. NetCall net u a.net_read.0 Nets.Accepted v) table_is a.net_read.1 in
+      let c = subst (λ u. NetCall net u a.net_read.0 (Ok tt) v) table_is a.net_read.1 in
       let (n, p, g, l, q) = net-spelt-so net a.book a.good_book a.net_read.0 v c in
       q
       ∙ ap (λ m. loaded (load a.book.agents m)) (Texts.net_unique a.book.agents n a.spelt g a.good_net (sym p ∙ a.net_is))

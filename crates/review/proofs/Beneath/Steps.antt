@@ -1,5 +1,5 @@
 -- In which case a call of step or run has which answer, and what it leaves.
-use Rattle.std.specs.Prelude.{ℕ, ◌≤◌, ◌<◌, ◌≡◌, List, ◌↔◌, ◌⊎◌}
+use Rattle.std.specs.Prelude.{ℕ, ◌≤◌, ◌<◌, ◌≡◌, List, ◌↔◌, ◌⊎◌, Ok, Err}
 use Rattle.std.proofs.Math.Path.{refl, ap}
 use Rattle.std.proofs.Common.{sym, ◌∙◌, inl, inr, arith}
 use Rattle.std.proofs.Math.Decide.{dec_lt}
@@ -18,12 +18,13 @@ use Rattle.sound.specs.Lent.{under}
 use Rattle.lent.specs.Both.{BothSound, table-given, sound_table_lem, sound-state, both_of}
 use Rattle.lent.specs.Decided.{decided, where_sound, where_not}
 use Rattle.machine.specs.Calls.{Told, made, stopped, number, Out, out, answered, step_told, step_called, run_told, ran_out, run_called}
-use Rattle.machine.specs.declared.calls.StepAnswer.{StepAnswer}
-use Rattle.machine.specs.declared.calls.StepAnswer.TheVariants as Step
-use Rattle.machine.specs.declared.calls.RunAnswer.{RunAnswer}
-use Rattle.machine.specs.declared.calls.RunAnswer.TheVariants as Run
+use Rattle.parts.specs.declared.faults.Fault.{Fault}
+use Rattle.parts.specs.declared.faults.Fault.TheVariants as Why
+use Rattle.machine.specs.declared.calls.Ran.{Ran}
+use Rattle.review.specs.Answers.{StepAnswer, RunAnswer}
+use Rattle.review.specs.Picks.{stop_answer}
 use Rattle.review.specs.Promises.{StepCall, RunCall}
-use Rattle.review.proofs.Beneath.Told.{step_of, step_back, run_of, run_back, exactly}
+use Rattle.review.proofs.Beneath.Told.{step_of, step_back, run_of, run_back, told-stop, exactly}
 
 module _ (w v : List ℕ) where
   pub step_unsound : (p : ℕ) → ¬ BothSound w v → step_called w v p ≡ out (number 16) (view v)
@@ -63,11 +64,32 @@ module _ (w v : List ℕ) where
       go (no k) = refl
 
 module _ (w v : List ℕ) (p : ℕ) where
-  abbrev pub StepIf : StepAnswer → Type 0
-  StepIf Step.Unsound = ¬ BothSound w v
-  StepIf Step.NoPick = BothSound w v × ((view v).waiting.used ≤ p)
-  StepIf Step.NoRoom = BothSound w v × (p < (view v).waiting.used) × NoRoom (under w) (view v) (picked (view v) p)
-  StepIf Step.Moved = BothSound w v × (p < (view v).waiting.used) × ¬ NoRoom (under w) (view v) (picked (view v) p)
+  abbrev pub Made : Type 0
+  Made = BothSound w v × (p < (view v).waiting.used) × ¬ NoRoom (under w) (view v) (picked (view v) p)
+
+  abbrev pub Roomless : Type 0
+  Roomless = BothSound w v × (p < (view v).waiting.used) × NoRoom (under w) (view v) (picked (view v) p)
+
+  abbrev pub Past : Type 0
+  Past = BothSound w v × ((view v).waiting.used ≤ p)
+
+  pub data StepIf : StepAnswer → Type 0 where
+    unsound : ¬ BothSound w v → StepIf (Err Why.Unsound)
+    no_pick : Past → StepIf (Err Why.NoPick)
+    no_room : Roomless → StepIf (Err Why.NoRoom)
+    moves : Made → StepIf (Ok tt)
+
+  pub if_unsound : StepIf (Err Why.Unsound) → ¬ BothSound w v
+  if_unsound (StepIf.unsound h) = h
+
+  pub if_no_pick : StepIf (Err Why.NoPick) → Past
+  if_no_pick (StepIf.no_pick h) = h
+
+  pub if_no_room : StepIf (Err Why.NoRoom) → Roomless
+  if_no_room (StepIf.no_room h) = h
+
+  pub if_moves : StepIf (Ok tt) → Made
+  if_moves (StepIf.moves h) = h
 
   -- What is left: a refused step leaves the state as it was.
   abbrev state_of : Answer → St
@@ -75,19 +97,17 @@ module _ (w v : List ℕ) (p : ℕ) where
   state_of (refused n) = view v
 
   abbrev pub step_leaves : StepAnswer → St
-  step_leaves Step.Moved = state_of (stepped (under w) (view v) p)
-  step_leaves Step.Unsound = view v
-  step_leaves Step.NoPick = view v
-  step_leaves Step.NoRoom = view v
+  step_leaves (Ok u) = state_of (stepped (under w) (view v) p)
+  step_leaves (Err f) = view v
 
-  not_refused : StepIf Step.Moved → (n : ℕ) → ¬ (stepped (under w) (view v) p ≡ refused n)
+  not_refused : Made → (n : ℕ) → ¬ (stepped (under w) (view v) p ≡ refused n)
   not_refused (h, o, r) n e = go (no_other (under w) (view v) p n e)
     where
       go : (n ≡ 12) ⊎ (n ≡ 13) → ⊥
       go (inl z) = absurd (omega (arith, o, (refused_12 (under w) (view v) p).0 (e ∙ ap refused z)))
       go (inr z) = r ((refused_13 (sound-state h) p).0 (e ∙ ap refused z)).1
 
-  pub moves_to : StepIf Step.Moved → stepped (under w) (view v) p ≡ moved (step_leaves Step.Moved)
+  pub moves_to : Made → stepped (under w) (view v) p ≡ moved (step_leaves (Ok tt))
   moves_to i = go (stepped (under w) (view v) p) refl
     where
       go : (a : Answer) → stepped (under w) (view v) p ≡ a → a ≡ moved (state_of a)
@@ -95,12 +115,15 @@ module _ (w v : List ℕ) (p : ℕ) where
       go (refused n) e = absurd (not_refused i n e)
 
   pub step_comes : (q : StepAnswer) → StepIf q → step_called w v p ≡ out (step_told q) (step_leaves q)
-  step_comes Step.Unsound h = step_unsound w v p h
-  step_comes Step.NoPick (h, o) =
-      step-asked w v p h ∙ ap (λ a. answered a (view v)) ((refused_12 (under w) (view v) p).1 o)
-  step_comes Step.NoRoom (h, o, n) =
-      step-asked w v p h ∙ ap (λ a. answered a (view v)) ((refused_13 (sound-state h) p).1 (o, n))
-  step_comes Step.Moved i = step-asked w v p i.0 ∙ ap (λ a. answered a (view v)) (moves_to i)
+  step_comes q i = go i
+    where
+      go : {q : StepAnswer} → StepIf q → step_called w v p ≡ out (step_told q) (step_leaves q)
+      go (StepIf.unsound h) = step_unsound w v p h
+      go (StepIf.no_pick (h, o)) =
+          step-asked w v p h ∙ ap (λ a. answered a (view v)) ((refused_12 (under w) (view v) p).1 o)
+      go (StepIf.no_room (h, o, n)) =
+          step-asked w v p h ∙ ap (λ a. answered a (view v)) ((refused_13 (sound-state h) p).1 (o, n))
+      go (StepIf.moves i) = step-asked w v p i.0 ∙ ap (λ a. answered a (view v)) (moves_to i)
 
   moved-refused : {s : St} {n : ℕ} → moved s ≡ refused n → ⊥
   moved-refused e = absurd (let z : ◌≡◌ {A = ℕ} 0 1 = cc in omega arith)
@@ -111,16 +134,16 @@ module _ (w v : List ℕ) (p : ℕ) where
       by : BothSound w v → p < (view v).waiting.used → (a : Answer) → stepped (under w) (view v) p ≡ a
           → (q : StepAnswer) × StepIf q
       by h o (moved s) e =
-          (Step.Moved, (h, o, λ n. moved-refused (sym e ∙ (refused_13 (sound-state h) p).1 (o, n))))
+          (Ok tt, StepIf.moves (h, o, λ n. moved-refused (sym e ∙ (refused_13 (sound-state h) p).1 (o, n))))
       by h o (refused n) e = which (no_other (under w) (view v) p n e)
         where
           which : (n ≡ 12) ⊎ (n ≡ 13) → (q : StepAnswer) × StepIf q
-          which (inl z) = (Step.NoPick, (h, (refused_12 (under w) (view v) p).0 (e ∙ ap refused z)))
-          which (inr z) = let k = (refused_13 (sound-state h) p).0 (e ∙ ap refused z) in (Step.NoRoom, (h, k.0, k.1))
+          which (inl z) = (Err Why.NoPick, StepIf.no_pick (h, (refused_12 (under w) (view v) p).0 (e ∙ ap refused z)))
+          which (inr z) = let k = (refused_13 (sound-state h) p).0 (e ∙ ap refused z) in (Err Why.NoRoom, StepIf.no_room (h, k.0, k.1))
 
       go : Dec (BothSound w v) → Dec (p < (view v).waiting.used) → (q : StepAnswer) × StepIf q
-      go (no h) d = (Step.Unsound, h)
-      go (yes h) (no o) = (Step.NoPick, (h, omega arith))
+      go (no h) d = (Err Why.Unsound, StepIf.unsound h)
+      go (yes h) (no o) = (Err Why.NoPick, StepIf.no_pick (h, omega arith))
       go (yes h) (yes o) = by h o (stepped (under w) (view v) p) refl
 
 module _ {w v : List ℕ} {p : ℕ} {r : StepAnswer} {v' : List ℕ} (c : StepCall w v p r v') where
@@ -137,28 +160,26 @@ module _ {w v : List ℕ} {p : ℕ} {r : StepAnswer} {v' : List ℕ} (c : StepCa
   pub step_left : view v' ≡ step_leaves w v p r
   step_left = ap (λ o. o.state) (c.promised ∙ step_comes w v p r ((step_exactly r).0 refl))
 
-  pub step_kept : ¬ (r ≡ Step.Moved) → view v' ≡ view v
+  pub step_kept : ¬ (r ≡ Ok tt) → view v' ≡ view v
   step_kept n = step_left ∙ same r n
     where
-      same : (q : StepAnswer) → ¬ (q ≡ Step.Moved) → step_leaves w v p q ≡ view v
-      same Step.Moved n = absurd (n refl)
-      same Step.Unsound n = refl
-      same Step.NoPick n = refl
-      same Step.NoRoom n = refl
+      same : (q : StepAnswer) → ¬ (q ≡ Ok tt) → step_leaves w v p q ≡ view v
+      same (Ok u) n = absurd (n refl)
+      same (Err f) n = refl
 
 -- A step that was made.
-pub step_went : {w v : List ℕ} {p : ℕ} {v' : List ℕ} → StepCall w v p Step.Moved v'
+pub step_went : {w v : List ℕ} {p : ℕ} {v' : List ℕ} → StepCall w v p (Ok tt) v'
     → BothSound w v × (p < (view v).waiting.used) × (stepped (under w) (view v) p ≡ moved (view v'))
 step_went {w} {v} {p} c =
-    let i = (step_exactly c Step.Moved).0 refl in (i.0, i.1, moves_to w v p i ∙ ap moved (sym (step_left c)))
+    let i = if_moves w v p ((step_exactly c (Ok tt)).0 refl) in (i.0, i.1, moves_to w v p i ∙ ap moved (sym (step_left c)))
 
-pub step_sound_after : {w v : List ℕ} {p : ℕ} {v' : List ℕ} → StepCall w v p Step.Moved v' → BothSound w v'
+pub step_sound_after : {w v : List ℕ} {p : ℕ} {v' : List ℕ} → StepCall w v p (Ok tt) v' → BothSound w v'
 step_sound_after {w} {v} {p} {v'} c =
     let k = step_went c in
     both_of w v' (table-given k.0) (step_sound (sound_table_lem k.0) (sound-state k.0) p k.2)
 
 -- A step that was made is a row of the step table.
-module _ {w v : List ℕ} {p : ℕ} {v' : List ℕ} (c : StepCall w v p Step.Moved v') where
+module _ {w v : List ℕ} {p : ℕ} {v' : List ℕ} (c : StepCall w v p (Ok tt) v') where
   abbrev Rows : St → Type 0
   Rows = Row (under w) (taken_out (place (view v) p) (view v)) (picked (view v) p)
 
@@ -173,19 +194,28 @@ module _ (w v : List ℕ) (budget : ℕ) where
   abbrev RunOn : RunAnswer → Type 0
   RunOn r = BothSound w v × (budget ≤ budget_max) × (run_says ≡ run_told r)
 
-  abbrev pub RunIf : RunAnswer → Type 0
-  RunIf Run.Unsound = ¬ BothSound w v
-  RunIf Run.TooMuch = BothSound w v × (budget_max < budget)
-  RunIf (Run.Ended n) = RunOn (Run.Ended n)
-  RunIf (Run.Paused n) = RunOn (Run.Paused n)
-  RunIf (Run.NoRoom n) = RunOn (Run.NoRoom n)
+  pub data RunIf : RunAnswer → Type 0 where
+    unsound : ¬ BothSound w v → RunIf (Err Why.Unsound)
+    too_much : BothSound w v × (budget_max < budget) → RunIf (Err Why.LargeBudget)
+    stops : (r : Ran) → RunOn (Ok r) → RunIf (Ok r)
+
+  pub if_run_unsound : RunIf (Err Why.Unsound) → ¬ BothSound w v
+  if_run_unsound (RunIf.unsound h) = h
+
+  pub if_too_much : RunIf (Err Why.LargeBudget) → BothSound w v × (budget_max < budget)
+  if_too_much (RunIf.too_much h) = h
+
+  pub if_stops : {r : Ran} → RunIf (Ok r) → RunOn (Ok r)
+  if_stops (RunIf.stops r h) = h
+
+  -- No other refusal comes.
+  pub if_refused : {f : Fault} → RunIf (Err f) → (◌≡◌ {A = RunAnswer} (Err f) (Err Why.Unsound)) ⊎ (◌≡◌ {A = RunAnswer} (Err f) (Err Why.LargeBudget))
+  if_refused (RunIf.unsound h) = inl refl
+  if_refused (RunIf.too_much h) = inr refl
 
   abbrev pub run_leaves : RunAnswer → St
-  run_leaves Run.Unsound = view v
-  run_leaves Run.TooMuch = view v
-  run_leaves (Run.Ended n) = (ran (under w) budget (view v)).state
-  run_leaves (Run.Paused n) = (ran (under w) budget (view v)).state
-  run_leaves (Run.NoRoom n) = (ran (under w) budget (view v)).state
+  run_leaves (Err f) = view v
+  run_leaves (Ok r) = (ran (under w) budget (view v)).state
 
   runs_on : (r : RunAnswer) → RunOn r → run_called w v budget ≡ out (run_told r) (ran (under w) budget (view v)).state
   unfolding ran_out
@@ -193,23 +223,24 @@ module _ (w v : List ℕ) (budget : ℕ) where
       run-asked w v budget h (omega arith) ∙ ap (λ t. out t (ran (under w) budget (view v)).state) e
 
   pub run_comes : (q : RunAnswer) → RunIf q → run_called w v budget ≡ out (run_told q) (run_leaves q)
-  run_comes Run.Unsound h = run_unsound w v budget h
-  run_comes Run.TooMuch (h, o) = run_too_much w v budget h o
-  run_comes (Run.Ended n) i = runs_on (Run.Ended n) i
-  run_comes (Run.Paused n) i = runs_on (Run.Paused n) i
-  run_comes (Run.NoRoom n) i = runs_on (Run.NoRoom n) i
+  run_comes q i = go i
+    where
+      go : {q : RunAnswer} → RunIf q → run_called w v budget ≡ out (run_told q) (run_leaves q)
+      go (RunIf.unsound h) = run_unsound w v budget h
+      go (RunIf.too_much (h, o)) = run_too_much w v budget h o
+      go (RunIf.stops r i) = runs_on (Ok r) i
 
   pub run_some : (q : RunAnswer) × RunIf q
   run_some = go (decided w v) (dec_lt budget_max budget)
     where
       by : BothSound w v → budget ≤ budget_max → (t : Stop) (n : ℕ) → run_says ≡ stopped t n → (q : RunAnswer) × RunIf q
-      by h o ended n e = (Run.Ended n, (h, o, e))
-      by h o paused n e = (Run.Paused n, (h, o, e))
-      by h o noroom n e = (Run.NoRoom n, (h, o, e))
+      by h o ended n e = (stop_answer ended n, RunIf.stops _ (h, o, e))
+      by h o paused n e = (stop_answer paused n, RunIf.stops _ (h, o, e))
+      by h o noroom n e = (stop_answer noroom n, RunIf.stops _ (h, o, e))
 
       go : Dec (BothSound w v) → Dec (budget_max < budget) → (q : RunAnswer) × RunIf q
-      go (no h) d = (Run.Unsound, h)
-      go (yes h) (yes o) = (Run.TooMuch, (h, o))
+      go (no h) d = (Err Why.Unsound, RunIf.unsound h)
+      go (yes h) (yes o) = (Err Why.LargeBudget, RunIf.too_much (h, o))
       go (yes h) (no o) = by h (omega arith) _ _ refl
 
 module _ {w v : List ℕ} {budget : ℕ} {r : RunAnswer} {v' : List ℕ} (c : RunCall w v budget r v') where
@@ -226,9 +257,9 @@ module _ {w v : List ℕ} {budget : ℕ} {r : RunAnswer} {v' : List ℕ} (c : Ru
   run_left : (q : RunAnswer) → r ≡ q → view v' ≡ run_leaves w v budget q
   run_left q e = ap (λ o. o.state) (c.promised ∙ run_comes w v budget q ((run_exactly q).0 e))
 
-  pub run-kept : (r ≡ Run.Unsound) ⊎ (r ≡ Run.TooMuch) → view v' ≡ view v
-  run-kept (inl e) = run_left Run.Unsound e
-  run-kept (inr e) = run_left Run.TooMuch e
+  pub run-kept : (r ≡ Err Why.Unsound) ⊎ (r ≡ Err Why.LargeBudget) → view v' ≡ view v
+  run-kept (inl e) = run_left (Err Why.Unsound) e
+  run-kept (inr e) = run_left (Err Why.LargeBudget) e
 
 -- A run that was not refused.
 pub run-went : {w v : List ℕ} {budget : ℕ} {r : RunAnswer} {v' : List ℕ} → RunCall w v budget r v' → (t : Stop) (n : ℕ)
@@ -239,10 +270,10 @@ pub run-went : {w v : List ℕ} {budget : ℕ} {r : RunAnswer} {v' : List ℕ} �
     × (view v' ≡ (ran (under w) budget (view v)).state)
 run-went {w} {v} {budget} {r} {v'} c t n e = go r ((run_exactly c r).0 refl) (run_left c r refl) e
   where
-    stop_of : Told → Stop
-    stop_of (stopped t n) = t
-    stop_of made = ended
-    stop_of (number n) = ended
+    stop_told : Told → Stop
+    stop_told (stopped t n) = t
+    stop_told made = ended
+    stop_told (number n) = ended
 
     count_of : Told → ℕ
     count_of (stopped t n) = n
@@ -258,11 +289,8 @@ run-went {w} {v} {budget} {r} {v'} c t n e = go r ((run_exactly c r).0 refl) (ru
 
     on : (q : RunAnswer) → RunOn w v budget q → view v' ≡ (ran (under w) budget (view v)).state → run_told q ≡ stopped t n
         → Went
-    on q (h, o, k) s e = (h, sym (ap stop_of (k ∙ e)), sym (ap count_of (k ∙ e)), s)
+    on q (h, o, k) s e = (h, sym (ap stop_told (k ∙ e)), sym (ap count_of (k ∙ e)), s)
 
     go : (q : RunAnswer) → RunIf w v budget q → view v' ≡ run_leaves w v budget q → run_told q ≡ stopped t n → Went
-    go Run.Unsound i s e = absurd (let z : ◌≡◌ {A = ℕ} 0 1 = cc in omega arith)
-    go Run.TooMuch i s e = absurd (let z : ◌≡◌ {A = ℕ} 0 1 = cc in omega arith)
-    go (Run.Ended m) i s e = on (Run.Ended m) i s e
-    go (Run.Paused m) i s e = on (Run.Paused m) i s e
-    go (Run.NoRoom m) i s e = on (Run.NoRoom m) i s e
+    go (Err f) i s e = absurd (let z : ◌≡◌ {A = ℕ} 0 1 = cc in omega arith)
+    go (Ok m) i s e = on (Ok m) (if_stops w v budget i) s e

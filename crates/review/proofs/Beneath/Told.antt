@@ -1,12 +1,15 @@
 -- Answers that are told alike are alike, and when a call has which answer.
-use Rattle.std.specs.Prelude.{ℕ, ◌≡◌, refl, Bool, true, false, cond, ◌↔◌, eqb}
+use Rattle.std.specs.Prelude.{ℕ, ◌≡◌, refl, Bool, true, false, ◌↔◌, Ok, Err}
 use Rattle.std.proofs.Common.{sym, ap, subst, ◌∙◌}
 use Rattle.model.specs.Walk.{Stop, ended, paused, noroom}
 use Rattle.machine.specs.Calls.{Told, made, stopped, number, step_told, run_told}
-use Rattle.machine.specs.declared.calls.StepAnswer.{StepAnswer}
-use Rattle.machine.specs.declared.calls.StepAnswer.TheVariants as Step
-use Rattle.machine.specs.declared.calls.RunAnswer.{RunAnswer}
-use Rattle.machine.specs.declared.calls.RunAnswer.TheVariants as Run
+use Rattle.parts.specs.declared.faults.Fault.TheVariants as Why
+use Rattle.machine.specs.declared.calls.Ran.{Ran}
+use Rattle.machine.specs.declared.outcome.Stop.{Stop as Stopping}
+use Rattle.machine.specs.declared.outcome.Stop.TheVariants as Code
+use Rattle.machine.specs.Turns.{stop_of}
+use Rattle.answer.specs.Main.{fault_of, fault_back}
+use Rattle.review.specs.Answers.{StepAnswer, RunAnswer}
 use Rattle.review.specs.Picks.{stop_answer}
 
 -- What is told by f can be read back, so what is told alike is alike.
@@ -14,32 +17,34 @@ pub read_back : {A B : Type 0} {f : A → B} (g : B → A) → ((a : A) → g (f
 read_back g back {x} {y} e = sym (back x) ∙ ap g e ∙ back y
 
 abbrev pub step_of : Told → StepAnswer
-step_of made = Step.Moved
-step_of (stopped s n) = Step.Moved
-step_of (number n) = cond (eqb n 12) Step.NoPick (cond (eqb n 13) Step.NoRoom Step.Unsound)
+step_of made = Ok tt
+step_of (stopped s n) = Ok tt
+step_of (number n) = Err (fault_of n)
 
 pub step_back : (r : StepAnswer) → step_of (step_told r) ≡ r
-step_back Step.Moved = refl
-step_back Step.Unsound = refl
-step_back Step.NoPick = refl
-step_back Step.NoRoom = refl
+step_back (Ok u) = refl
+step_back (Err f) = ap Err (fault_back f)
 
 pub step-alike : (r q : StepAnswer) → step_told r ≡ step_told q → r ≡ q
 step-alike r q e = read_back {f = step_told} step_of step_back e
 
+-- A run that stopped, in the words of the model.
+pub run_named : (r : Ran) → stop_answer (stop_of r.stop) r.made ≡ Ok r
+run_named r = go r.stop
+  where
+    go : (s : Stopping) → stop_answer (stop_of s) r.made ≡ Ok (record { stop = s; made = r.made })
+    go Code.Ended = refl
+    go Code.Paused = refl
+    go Code.NoRoom = refl
+
 abbrev pub run_of : Told → RunAnswer
-run_of made = Run.Unsound
-run_of (stopped ended n) = Run.Ended n
-run_of (stopped paused n) = Run.Paused n
-run_of (stopped noroom n) = Run.NoRoom n
-run_of (number n) = cond (eqb n 17) Run.TooMuch Run.Unsound
+run_of made = Err Why.Unsound
+run_of (stopped t n) = stop_answer t n
+run_of (number n) = Err (fault_of n)
 
 pub run_back : (r : RunAnswer) → run_of (run_told r) ≡ r
-run_back (Run.Ended n) = refl
-run_back (Run.Paused n) = refl
-run_back (Run.NoRoom n) = refl
-run_back Run.Unsound = refl
-run_back Run.TooMuch = refl
+run_back (Ok r) = run_named r
+run_back (Err f) = ap Err (fault_back f)
 
 pub told-stop : (t : Stop) (n : ℕ) → run_told (stop_answer t n) ≡ stopped t n
 told-stop ended n = refl

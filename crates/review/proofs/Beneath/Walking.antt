@@ -1,5 +1,5 @@
 -- Calls of step and run as a walk of the model, and when calls without end come to where nothing waits.
-use Rattle.std.specs.Prelude.{ℕ, suc, ◌+◌, ◌<◌, ◌≡◌, List, [], ◌++◌, ◌⊎◌, length}
+use Rattle.std.specs.Prelude.{ℕ, suc, ◌+◌, ◌<◌, ◌≡◌, List, [], ◌++◌, ◌⊎◌, length, Ok, Err}
 use Rattle.std.proofs.Math.Path.{refl}
 use Rattle.std.proofs.Common.{sym, ap, subst, inl, inr, length-append}
 use native.Mathlib.Omega.{arith}
@@ -15,14 +15,14 @@ use Rattle.model.specs.Agree.{steps_in, uses_in}
 use Rattle.state.specs.Layout.{view}
 use Rattle.sound.specs.Lent.{under}
 use Rattle.lent.specs.Both.{BothSound, table-given, sound_table_lem, sound-state, both_of}
-use Rattle.machine.specs.declared.calls.StepAnswer.{StepAnswer}
-use Rattle.machine.specs.declared.calls.StepAnswer.TheVariants as Step
-use Rattle.machine.specs.declared.calls.RunAnswer.{RunAnswer}
-use Rattle.machine.specs.declared.calls.RunAnswer.TheVariants as Run
+use Rattle.parts.specs.declared.faults.Fault.TheVariants as Why
+use Rattle.machine.specs.Turns.{stop_of}
+use Rattle.review.specs.Answers.{StepAnswer, RunAnswer}
 use Rattle.review.specs.Promises.{StepCall, RunCall}
-use Rattle.review.specs.Picks.{fires, Picks, Call, Moves, Calls, first_picks}
+use Rattle.review.specs.Picks.{fires, Picks, Call, Moves, Calls, first_picks, stop_answer}
 use Rattle.review.proofs.Beneath.Made.{fires-made, run-steps}
-use Rattle.review.proofs.Beneath.Steps.{step_exactly, step_went, step_kept, step_sound_after, run_exactly, run-kept, run-went}
+use Rattle.review.proofs.Beneath.Steps.{StepIf, step_exactly, step_went, step_kept, step_sound_after, RunIf, if_refused, if_stops, run_exactly, run-kept, run-went}
+use Rattle.review.proofs.Beneath.Told.{told-stop, run_named}
 
 -- A walk that fires some rules.
 pub record WalkOf (T : Table) (s : St) (is : List ℕ) (s' : St) : Type 0 where
@@ -102,30 +102,30 @@ moves-sound h m = walk_keeps h (moves_walk m)
 
 -- Each call of step and of run is one of these calls.
 pub step_call : {w v : List ℕ} {p : ℕ} {r : StepAnswer} {v' : List ℕ} → StepCall w v p r v' → (is : List ℕ) × Call w v is v'
-step_call {r = Step.Moved} c = (_, Call.step c)
-step_call {r = Step.NoPick} c = ([], Call.step_refused c (λ e. absurd (let z : ◌≡◌ {A = ℕ} 0 1 = cc in omega arith)))
-step_call {r = Step.NoRoom} c = ([], Call.step_refused c (λ e. absurd (let z : ◌≡◌ {A = ℕ} 0 1 = cc in omega arith)))
-step_call {r = Step.Unsound} c = ([], Call.step_refused c (λ e. absurd (let z : ◌≡◌ {A = ℕ} 0 1 = cc in omega arith)))
+step_call {r = Ok u} c = (_, Call.step c)
+step_call {r = Err f} c = ([], Call.step_refused c (λ e. absurd (let z : ◌≡◌ {A = ℕ} 0 1 = cc in omega arith)))
 
 pub run_call : {w v : List ℕ} {budget : ℕ} {r : RunAnswer} {v' : List ℕ} → RunCall w v budget r v' → (is : List ℕ) × Call w v is v'
-run_call {r = Run.Unsound} c = ([], Call.run_refused c (inl refl))
-run_call {r = Run.TooMuch} c = ([], Call.run_refused c (inr refl))
-run_call {r = Run.Ended n} c = let s = run-steps c ended n refl in (s.fired, Call.run {t = ended} {n = n} c s)
-run_call {r = Run.Paused n} c = let s = run-steps c paused n refl in (s.fired, Call.run {t = paused} {n = n} c s)
-run_call {r = Run.NoRoom n} c = let s = run-steps c noroom n refl in (s.fired, Call.run {t = noroom} {n = n} c s)
+run_call {w = w} {v = v} {budget = budget} {r = Err f} c = ([], Call.run_refused c (if_refused w v budget ((run_exactly c (Err f)).0 refl)))
+run_call {w = w} {v = v} {budget = budget} {r = Ok x} {v' = v'} c =
+    let t = stop_of x.stop in
+    let k = subst (λ q. RunCall w v budget q v') (sym (run_named x)) c in
+    let s = run-steps k t x.made (told-stop t x.made) in (s.fired, Call.run {t = t} {n = x.made} k s)
 
-lent-run : {w v : List ℕ} {budget : ℕ} {r : RunAnswer} {v' : List ℕ} → RunCall w v budget r v' → ¬ (r ≡ Run.Unsound) → BothSound w v
-lent-run {r = Run.Unsound} c n = absurd (n refl)
-lent-run {r = Run.TooMuch} c n = ((run_exactly c Run.TooMuch).0 refl).0
-lent-run {r = Run.Ended k} c n = (run-went c ended k refl).0
-lent-run {r = Run.Paused k} c n = (run-went c paused k refl).0
-lent-run {r = Run.NoRoom k} c n = (run-went c noroom k refl).0
+lent-run : {w v : List ℕ} {budget : ℕ} {r : RunAnswer} {v' : List ℕ} → RunCall w v budget r v' → ¬ (r ≡ Err Why.Unsound)
+    → BothSound w v
+lent-run {w} {v} {budget} {r} c n = go ((run_exactly c r).0 refl) n
+  where
+    go : {q : RunAnswer} → RunIf w v budget q → ¬ (q ≡ Err Why.Unsound) → BothSound w v
+    go (RunIf.unsound h) n = absurd (n refl)
+    go (RunIf.too_much (h, o)) n = h
+    go (RunIf.stops x i) n = i.0
 
-pub run-sound_after : {w v : List ℕ} {budget : ℕ} {r : RunAnswer} {v' : List ℕ} → RunCall w v budget r v' → ¬ (r ≡ Run.Unsound)
+pub run-sound_after : {w v : List ℕ} {budget : ℕ} {r : RunAnswer} {v' : List ℕ} → RunCall w v budget r v' → ¬ (r ≡ Err Why.Unsound)
     → BothSound w v'
 run-sound_after c n = walk_keeps (lent-run c n) (call-walk (run_call c).1)
 
--- Of calls without end: after some of them nothing waits, or all of the first so many were answered Moved.
+-- Of calls without end: after some of them nothing waits, or all of the first so many were answered Ok.
 pub record Stops (w : List ℕ) (f : ℕ → ℕ) (vs : ℕ → List ℕ) : Type 0 where
   pub after : ℕ
   pub nothing_waits : (view (vs after)).waiting.used ≡ 0
@@ -148,20 +148,20 @@ stop_or_go {w} (ℕ.suc fuel) {f} {r} vs h c =
     Rest : Type 0
     Rest = Stops w (λ i. f (suc i)) (λ i. vs (suc i)) ⊎ Goes w (λ i. f (suc i)) (λ i. vs (suc i)) fuel
 
-    step : 0 < (view (vs 0)).waiting.used → StepCall w (vs 0) (f 0) Step.Moved (vs 1)
+    step : 0 < (view (vs 0)).waiting.used → StepCall w (vs 0) (f 0) (Ok tt) (vs 1)
     step o =
         let k = c.call 0 in
         subst
         (λ q. StepCall w (vs 0) (f 0) q (vs 1))
-        ((step_exactly k Step.Moved).1 (h, c.picks 0 o, λ n. c.room 0 ((step_exactly k Step.NoRoom).1 (h, c.picks 0 o, n))))
+        ((step_exactly k (Ok tt)).1 (StepIf.moves (h, c.picks 0 o, λ n. c.room 0 ((step_exactly k (Err Why.NoRoom)).1 (StepIf.no_room (h, c.picks 0 o, n))))))
         k
 
-    on : (k : StepCall w (vs 0) (f 0) Step.Moved (vs 1)) → Rest → Stops w f vs ⊎ Goes w f vs (suc fuel)
+    on : (k : StepCall w (vs 0) (f 0) (Ok tt) (vs 1)) → Rest → Stops w f vs ⊎ Goes w f vs (suc fuel)
     on k (inl s) =
         inl (record { after = suc s.after; nothing_waits = s.nothing_waits; fired = _; picks = Picks.more k s.picks })
     on k (inr m) = inr (_, Picks.more k m.1)
 
-    go : (StepCall w (vs 0) (f 0) Step.Moved (vs 1) → Rest) → (n : ℕ) → (view (vs 0)).waiting.used ≡ n
+    go : (StepCall w (vs 0) (f 0) (Ok tt) (vs 1) → Rest) → (n : ℕ) → (view (vs 0)).waiting.used ≡ n
         → Stops w f vs ⊎ Goes w f vs (suc fuel)
     go then ℕ.zero e = inl (record { after = 0; nothing_waits = e; fired = []; picks = Picks.none })
     go then (ℕ.suc n) e = let k = step (omega (arith, e)) in on k (then k)

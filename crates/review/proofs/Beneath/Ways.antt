@@ -22,7 +22,7 @@ use Rattle.state.specs.Layout.{view}
 use Rattle.sound.specs.Lent.{under}
 use Rattle.lent.specs.Both.{BothSound, sound_table_lem, sound-state}
 use Rattle.review.proofs.Beneath.Told.{told-stop}
-use Rattle.machine.specs.declared.calls.StepAnswer.{StepAnswer}
+use Rattle.review.specs.Answers.{StepAnswer}
 use Rattle.texts.specs.Bytes.{text_of}
 use Rattle.table.specs.Layout.{agents_in}
 use Rattle.answers.specs.Same.{Same}

@@ -1,23 +1,19 @@
 -- A line that is cut is the first of the lines, and a field that is cut the k-th of the fields.
-use Prim.Native.Nat.{ℕ, zero, suc, ◌+◌, ◌-◌, ◌≤◌, ◌<◌}
-use Rattle.std.specs.Prelude.{◌≡◌, Bool, cond, List, [], ◌∷◌, ◌++◌, length, take, drop, get_or, eqb}
-use Rattle.std.proofs.Math.Path.{refl, ap}
-use Rattle.std.proofs.Common.{sym, ◌∙◌, sub-one, drop_of_length-le, take_all}
-use Rattle.std.proofs.Math.Bool.{true, false}
-use native.Mathlib.Omega.{arith}
+use Rattle.std.specs.Prelude.{ℕ, zero, suc, ◌+◌, ◌-◌, ◌≤◌, ◌<◌, ◌≡◌, refl, Bool, true, false, cond, List, [], ◌∷◌, ◌++◌, length, take, drop, get_or, eqb, Option, Some, None, Result, Ok, Err}
+use Rattle.std.proofs.Common.{sym, ap, ◌∙◌, arith, sub-one, drop_of_length-le, take_all}
+use Rattle.parts.specs.declared.faults.Fault.{Fault}
+use Rattle.parts.specs.declared.faults.Fault.TheVariants.{BadByte}
 use Rattle.std.proofs.Math.ListN.{length-drop}
 use Rattle.std.proofs.Math.Seq.{drop-drop}
 use Rattle.std.proofs.Math.Dec.{ltb, leb}
-use borrow.Author.Tests.{eqb-true, leb-true, leb-false, ltb-true, ltb-false}
+use Rattle.std.proofs.Common.{eqb-true, leb-true, leb-false, ltb-true, ltb-false}
 use Rattle.texts.specs.Bytes.{all, lines, on_field, fields}
 use Rattle.texts.specs.Splitting.{free}
 use Rattle.texts.specs.Bytes.{ended_line}
 use Rattle.texts.proofs.Beneath.Splitting.{lines_cons, lines_last}
 use Rattle.scan.specs.Places.{place, is}
 use Rattle.scan.specs.Cutting.{up_to, next_line, tabs, field_start}
-use Rattle.scan.specs.Laws.Cutting.{EndedAt, Told}
-use Rattle.scan.specs.declared.cutting.NextLine.{NextLine}
-use Rattle.scan.specs.declared.cutting.NextLine.TheVariants.{Ended, Unended, Nothing}
+use Rattle.scan.specs.Laws.Cutting.{EndedAt, UnendedAt, Told}
 
 -- what is cut has none of the marks
 pub cut-free : (m : ℕ) (l : List ℕ) → all (free m) (up_to m l) ≡ true
@@ -79,26 +75,43 @@ module _ (text : List ℕ) (at : ℕ) where
   told_line = go (leb (length text) at) (ltb (place (is 10) (drop at text)) (length (drop at text))) refl refl
     where
       go : (t u : Bool) → leb (length text) at ≡ t → ltb (place (is 10) (drop at text)) (length (drop at text)) ≡ u
-          → Told text at (cond t Nothing (cond u (Ended (at + place (is 10) (drop at text))) Unended))
+          → Told text at (cond t (Ok None) (cond u (Ok (Some (at + place (is 10) (drop at text)))) (Err BadByte)))
       go true u e k = ap lines (drop_of_length-le text (leb-true (length text) at e))
       go false true e k = ended_at (ltb-true (place (is 10) (drop at text)) (length (drop at text)) k)
-      go false false e k =
-          lines_none (drop at text) (omega (arith, length-drop at text, leb-false (length text) at e))
-          (ltb-false (place (is 10) (drop at text)) (length (drop at text)) k)
+      go false false e k = record {
+        number = refl;
+        last =
+            lines_none (drop at text) (omega (arith, length-drop at text, leb-false (length text) at e))
+            (ltb-false (place (is 10) (drop at text)) (length (drop at text)) k);
+      }
 
   -- and one by one, of an answer r
-  module _ {r : NextLine} (is : r ≡ next_line text at) where
-    pub ended_line_lem : {e : ℕ} → r ≡ Ended e → EndedAt text at e
+  module _ {r : Result (Option ℕ) Fault} (is : r ≡ next_line text at) where
+    pub ended_line_lem : {e : ℕ} → r ≡ Ok (Some e) → EndedAt text at e
     unfolding Told
     ended_line_lem h = rw (← is, h) at told_line
 
-    pub unended_line : r ≡ Unended → lines (drop at text) ≡ record { bytes = drop at text; ended = false } ∷ []
-    unfolding Told
-    unended_line h = rw (← is, h) at told_line
+    -- the same where a pattern or a `?` tells of the two in turn
+    pub ended_line_in : {o : Option ℕ} → r ≡ Ok o → {e : ℕ} → o ≡ Some e → EndedAt text at e
+    ended_line_in h k = ended_line_lem (h ∙ ap Ok k)
 
-    pub no_line : r ≡ Nothing → lines (drop at text) ≡ []
+    pub unended_at : {f : Fault} → r ≡ Err f → UnendedAt text at f
+    unfolding Told
+    unended_at h = rw (← is, h) at told_line
+
+    pub unended_line : {f : Fault} → r ≡ Err f → lines (drop at text) ≡ record { bytes = drop at text; ended = false } ∷ []
+    unended_line h = (unended_at h).last
+
+    -- which is number 2
+    pub unended_fault : {f : Fault} → r ≡ Err f → f ≡ BadByte
+    unended_fault h = (unended_at h).number
+
+    pub no_line : r ≡ Ok None → lines (drop at text) ≡ []
     unfolding Told
     no_line h = rw (← is, h) at told_line
+
+    pub no_line_in : {o : Option ℕ} → r ≡ Ok o → o ≡ None → lines (drop at text) ≡ []
+    no_line_in h k = no_line (h ∙ ap Ok k)
 
 -- the fields of a line
 on_length : (b : ℕ) (fs : List (List ℕ)) → length (on_field b fs) ≡ length fs

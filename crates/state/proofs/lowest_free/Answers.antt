@@ -1,17 +1,14 @@
--- `state::lowest_free` meets its contract. The loop passes only places that are taken.
-use borrow.Author.Rules.{rules}
-use Rattle.state.proofs.Laws.{words-length}
-use Rattle.state.proofs.Piles.{look_none, look_found, look_more, look_end}
+-- `state::lowest_free` meets its contract.
+use Rattle.std.proofs.Common.{rules}
+use Rattle.state.proofs.Laws.{part_begins}
+use Rattle.state.proofs.Piles.{look_way}
 use Rattle.state.proofs.lowest_free.Goals as goal
 
-pub loop-i-init : goal.loop-i-init
-loop-i-init c = search (rules, look_none, words-length)
+pub slice_bounds-rest-count : goal.slice_bounds-rest-count
+slice_bounds-rest-count c = search (rules, part_begins)
 
-pub returns-then-read-eq0 : goal.returns-then-read-eq0
-returns-then-read-eq0 c = search (rules, look_found)
-
-pub loop-i-preserved : goal.loop-i-preserved
-loop-i-preserved c = search (rules, look_more)
+pub slice_bounds-rest-start : goal.slice_bounds-rest-start
+slice_bounds-rest-start c = search (rules, part_begins)
 
 pub returns : goal.returns
-returns c = search (rules, look_end)
+returns c = search (rules, look_way)

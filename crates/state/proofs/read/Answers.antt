@@ -1,16 +1,7 @@
 -- `state::read` meets its contract.
-use Rattle.state.proofs.Laws.{sum_fits, scaled, within, fetch_way}
+use Rattle.state.proofs.Laws.{fetch_way}
 use borrow.Author.Rules.{rules}
 use Rattle.state.proofs.read.Goals as goal
-
-pub overflow_add-result : goal.overflow_add-result
-overflow_add-result c = search (rules, sum_fits)
-
-pub offset_bounds-state-a : goal.offset_bounds-state-a
-offset_bounds-state-a c = search (rules, scaled)
-
-pub bounds-state-a : goal.bounds-state-a
-bounds-state-a c = search (rules, within)
 
 pub returns : goal.returns
 returns c = search (rules, fetch_way)

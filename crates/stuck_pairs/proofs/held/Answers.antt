@@ -1,13 +1,13 @@
 -- `stuck_pairs::held` meets its contract.
+use Rattle.std.proofs.Common.{rules}
 use Rattle.stuck_pairs.proofs.Stuck.{held_left, held_right, held-cells}
-use borrow.Author.Rules.{rules}
 use Rattle.stuck_pairs.proofs.held.Goals as goal
 
-pub returns-in-Name : goal.returns-in-Name
-returns-in-Name c = search (rules, held_left)
+pub returns : goal.returns
+returns c = search (rules, held-cells)
 
-pub returns-in-Name-right : goal.returns-in-Name-right
-returns-in-Name-right c = search (rules, held_right)
+pub returns-in_default : goal.returns-in_default
+returns-in_default c = search (rules, held_left)
 
-pub returns-in-Cell-right : goal.returns-in-Cell-right
-returns-in-Cell-right c = search (rules, held-cells)
+pub returns-in_default-right : goal.returns-in_default-right
+returns-in_default-right c = search (rules, held_right)

@@ -1,14 +1,17 @@
 -- `stuck_pairs::unruled` meets its contract.
-use Rattle.sound.proofs.Every.{pass_start, pass_more}
-use Rattle.stuck_pairs.proofs.Stuck.{held_end}
-use borrow.Author.Rules.{rules}
+use Rattle.std.proofs.Common.{rules, ap, ◌∙◌, tests}
+use Rattle.model.specs.State.{unpack}
+use Rattle.model.specs.Sound.{mem_of}
+use Rattle.model.specs.Test.{unruled}
+use Rattle.state.specs.Layout.{view}
+use Rattle.sound.specs.Lent.{under}
+use Rattle.sound.proofs.Every.{all_below}
+use Rattle.stuck_pairs.proofs.Stuck.{every_held}
 use Rattle.stuck_pairs.proofs.unruled.Goals as goal
 
-pub loop-k-init : goal.loop-k-init
-loop-k-init c = search (rules, pass_start)
-
-pub loop-k-preserved : goal.loop-k-preserved
-loop-k-preserved c = pass_more c.held.result c.both-ok.result c.loop-k.invariant c.loop-k-test.true c.held.ensures c.both-ok.ensures
-
 pub returns : goal.returns
-returns c = search (rules, held_end)
+returns c =
+    let T = under c.args.lent.table.bytes.now in
+    let s = view c.args.lent.state.now in
+    all_below _ c.count.result c.all.ensures.ran (cc) (λ x b q k. search (rules, tests))
+    ∙ every_held T s c.count.result ∙ ap (λ n. unruled T.rules (mem_of T s) (unpack n s.stuck.words)) c.count.ensures

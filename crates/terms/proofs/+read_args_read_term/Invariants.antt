@@ -1,5 +1,5 @@
 -- `read_term` and `read_args` meet their contracts: the measure falls with the levels left, and with the arguments left. Assumes nothing.
-use Prim.Native.Nat.{◌*◌, ◌+◌}
+use Rattle.std.specs.Prelude.{◌*◌, ◌+◌}
 use Rattle.terms.proofs.+read_args_read_term.Given as goal
 
 abbrev pub decreases-read_args : goal.decreases-read_args

@@ -1,40 +1,35 @@
 -- Numbers of names and symbols: places in a list, and lists that grow. Assumes nothing.
-use Prim.Native.Nat.{ℕ, zero, suc, ◌+◌, ◌*◌, ◌<◌, ◌≤◌}
-use Rattle.std.specs.Prelude.{◌≡◌, Bool, true, false, cond, ◌||◌, length, get_or}
-use Rattle.std.proofs.Math.Path.{refl, ap}
-use Rattle.std.proofs.Common.{sym, ◌∙◌, length-append}
-use mathlib.Core.List.{List, [], ◌∷◌, ◌++◌, append_assoc, append-nil, map}
-use native.Mathlib.Omega.{arith}
+use Rattle.std.specs.Prelude.{None, Some, ℕ, zero, suc, ◌+◌, ◌*◌, ◌<◌, ◌≤◌, ◌≡◌, Bool, true, false, cond, ◌||◌, length, get_or, refl, List, [], ◌∷◌, ◌++◌, map}
+use Rattle.std.proofs.Common.{ap, sym, ◌∙◌, length-append, append_assoc, append-nil, arith}
 use Rattle.texts.specs.Bytes.{Word, any, same, among, index_of}
 use Rattle.texts.specs.Books.{Agent, declared, takes}
 use Rattle.texts.specs.Coded.{symbol_of}
 use Rattle.texts.proofs.Beneath.Tools.{never, never', same_refl}
-use Rattle.terms.specs.Words.{found, entry, entries_from}
+use Rattle.terms.specs.Words.{known, found, entry, entries_from}
 use Rattle.terms.specs.Meaning.{grown}
-use Rattle.terms.specs.declared.words.Found.{Found}
 
 -- a declared word is found under its symbol's number, and no other is found
 pub found-agent : (ags : List Agent) (w : Word) (k : ℕ) → declared ags w ≡ true
-    → found k ags w ≡ Found.Agent (record { 0 = k + symbol_of ags w }) (takes ags w)
+    → found k ags w ≡ Some (known (k + symbol_of ags w) (takes ags w))
 unfolding found declared any takes symbol_of index_of
 found-agent [] w k h = never h
 found-agent (a ∷ ags) w k h = go (same w a.symbol) h (found-agent ags w (k + 1))
   where
     go : (t : Bool) → (t || any (λ b. same w b.symbol) ags) ≡ true
-        → (declared ags w ≡ true → found (k + 1) ags w ≡ Found.Agent (record { 0 = k + 1 + symbol_of ags w }) (takes ags w))
-        → cond t (Found.Agent (record { 0 = k }) a.arity) (found (k + 1) ags w)
-        ≡ Found.Agent (record { 0 = k + cond t 0 (suc (index_of w (map (λ b. b.symbol) ags))) }) (cond t a.arity (takes ags w))
+        → (declared ags w ≡ true → found (k + 1) ags w ≡ Some (known (k + 1 + symbol_of ags w) (takes ags w)))
+        → cond t (Some (known k a.arity)) (found (k + 1) ags w)
+        ≡ Some (known (k + cond t 0 (suc (index_of w (map (λ b. b.symbol) ags)))) (cond t a.arity (takes ags w)))
     go true p ih = let z : k + 0 ≡ k = omega arith in rw z
     go false p ih = let z : k + suc (index_of w (map (λ b. b.symbol) ags)) ≡ k + 1 + index_of w (map (λ b. b.symbol) ags) = omega arith in rw z (ih p)
 
-pub found_none : (ags : List Agent) (w : Word) (k : ℕ) → declared ags w ≡ false → found k ags w ≡ Found.Nothing
+pub found_none : (ags : List Agent) (w : Word) (k : ℕ) → declared ags w ≡ false → found k ags w ≡ None
 unfolding found declared any
 found_none [] w k h = refl
 found_none (a ∷ ags) w k h = go (same w a.symbol) h (found_none ags w (k + 1))
   where
     go : (t : Bool) → (t || any (λ b. same w b.symbol) ags) ≡ false
-        → (declared ags w ≡ false → found (k + 1) ags w ≡ Found.Nothing)
-        → cond t (Found.Agent (record { 0 = k }) a.arity) (found (k + 1) ags w) ≡ Found.Nothing
+        → (declared ags w ≡ false → found (k + 1) ags w ≡ None)
+        → cond t (Some (known k a.arity)) (found (k + 1) ags w) ≡ None
     go true p ih = never' p
     go false p ih = ih p
 

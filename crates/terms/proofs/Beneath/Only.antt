@@ -1,13 +1,7 @@
 -- Nothing is read but terms whose identifiers have as many arguments as they take. Assumes nothing.
-use Prim.Native.Nat.{ℕ, zero, suc, ◌+◌, ◌-◌, ◌<◌}
-use Rattle.std.proofs.Math.Path.{◌≡◌, refl, sym, ap}
-use Rattle.std.proofs.Common.{◌∙◌, arith}
-use Rattle.std.specs.Prelude.{Bool, leb, ltb, get_or, take}
-use Rattle.std.proofs.Math.Bool.{true, false, cond}
-use mathlib.Core.List.{List, [], ◌∷◌, ◌++◌, append_assoc, append-nil}
-use Rattle.std.proofs.Math.Dec.{eqb}
-use Rattle.std.proofs.Math.ListN.{length, drop, length-append}
-use borrow.Author.Tests.{eq-eqb, ne_eqb, eqb-true, eqb-false}
+use Rattle.std.specs.Prelude.{Option, None, Some, ℕ, zero, suc, ◌+◌, ◌-◌, ◌<◌, ◌≡◌, refl, Bool, leb, ltb, get_or, take, true, false, cond, List, [], ◌∷◌, ◌++◌, eqb, length, drop}
+use Rattle.std.proofs.Common.{sym, ap, ◌∙◌, arith, append_assoc, append-nil, length-append, eq-eqb, ne_eqb, eqb-true}
+use borrow.Author.Tests.{eqb-false}
 use Rattle.parts.specs.Limits.{arity_max, net_cells_max}
 use Rattle.parts.specs.Sides.{cell, code}
 use Rattle.parts.specs.declared.CellNo.{CellNo}
@@ -19,46 +13,46 @@ use Rattle.texts.specs.RuleText.{wrong_args}
 use Rattle.texts.proofs.Beneath.Tools.{both, any_append, none_of}
 use Rattle.terms.specs.Sheet.{Sheet, argued, opened}
 use Rattle.scan.specs.Words.{word_end}
-use Rattle.terms.specs.Reader.{Done, done, name_by, taking, cell_by, found_by, head_by, on_read, last_arg, next_arg, args_by, after_head, with_head, term_by}
+use Rattle.terms.specs.Reader.{read, Done, done, name_by, taking, cell_by, found_by, head_by, on_read, last_arg, next_arg, args_by, after_head, with_head, term_by}
 use Rattle.terms.specs.Meaning.{Stops}
 use Rattle.terms.proofs.Beneath.Numbers.{found-agent, found_none, takes_none}
 use Rattle.terms.proofs.Beneath.Spelt.{skip, skip_one, here, Ends, stops-ends, open_ends, identifier_some, word-ends, word_here, word-stops}
 use Rattle.terms.proofs.Beneath.Heads.{name-bare}
 use Rattle.terms.specs.Reads.{inner}
 use Rattle.terms.proofs.Beneath.Trees.{closing-stops}
-use Rattle.terms.specs.declared.Got.{Got}
+use Rattle.terms.specs.declared.Read.{Read}
 use Rattle.terms.specs.declared.Head.{Head}
 
 -- a head says how many arguments its word takes
 module _ (v : ℕ) (s₁ : Sheet) where
-  taking-plain : (c a : ℕ) (s : Sheet) → taking c a s ≡ done (Head.Plain v) s₁ → a ≡ 0
+  taking-plain : (c a : ℕ) (s : Sheet) → taking c a s ≡ done (Some (Head.Plain v)) s₁ → a ≡ 0
   unfolding taking
   taking-plain c zero s e = refl
   taking-plain c (suc a) s e = let z : ◌≡◌ {A = ℕ} 0 1 = cc in absurd (omega arith)
 
-  cell-plain : (k a : ℕ) (s : Sheet) → cell_by k a s ≡ done (Head.Plain v) s₁ → a ≡ 0
+  cell-plain : (k a : ℕ) (s : Sheet) → cell_by k a s ≡ done (Some (Head.Plain v)) s₁ → a ≡ 0
   unfolding cell_by
   cell-plain k a s e = go (leb net_cells_max s.cells) (ltb arity_max a) e
     where
       go : (t u : Bool)
-          → cond t (done Head.Wrong s) (cond u (done Head.Wrong s) (taking s.cells a (opened s.cells k s))) ≡ done (Head.Plain v) s₁
+          → cond t (done None s) (cond u (done None s) (taking s.cells a (opened s.cells k s))) ≡ done (Some (Head.Plain v)) s₁
           → a ≡ 0
       go true u d = let z : ◌≡◌ {A = ℕ} 0 1 = cc in absurd (omega arith)
       go false true d = let z : ◌≡◌ {A = ℕ} 0 1 = cc in absurd (omega arith)
       go false false d = taking-plain s.cells a (opened s.cells k s) d
 
 module _ (k : CellNo) (m : ℕ) (s₁ : Sheet) where
-  taking_some : (c a : ℕ) (s : Sheet) → taking c a s ≡ done (Head.Takes k m) s₁ → a ≡ suc m
+  taking_some : (c a : ℕ) (s : Sheet) → taking c a s ≡ done (Some (Head.Takes k m)) s₁ → a ≡ suc m
   unfolding taking
   taking_some c zero s e = let z : ◌≡◌ {A = ℕ} 0 1 = cc in absurd (omega arith)
   taking_some c (suc a) s e = let z : a ≡ m = cc in ap suc z
 
-  cell_some : (b a : ℕ) (s : Sheet) → cell_by b a s ≡ done (Head.Takes k m) s₁ → a ≡ suc m
+  cell_some : (b a : ℕ) (s : Sheet) → cell_by b a s ≡ done (Some (Head.Takes k m)) s₁ → a ≡ suc m
   unfolding cell_by
   cell_some b a s e = go (leb net_cells_max s.cells) (ltb arity_max a) e
     where
       go : (t u : Bool)
-          → cond t (done Head.Wrong s) (cond u (done Head.Wrong s) (taking s.cells a (opened s.cells b s))) ≡ done (Head.Takes k m) s₁
+          → cond t (done None s) (cond u (done None s) (taking s.cells a (opened s.cells b s))) ≡ done (Some (Head.Takes k m)) s₁
           → a ≡ suc m
       go true u d = let z : ◌≡◌ {A = ℕ} 0 1 = cc in absurd (omega arith)
       go false true d = let z : ◌≡◌ {A = ℕ} 0 1 = cc in absurd (omega arith)
@@ -74,14 +68,14 @@ module _ (text : List ℕ) (ags : List Agent) (at e : ℕ) (s : Sheet) (w : Word
   unfolding head_by found_by
   by_name d = rw (h, found_none ags w 0 d)
 
-  plain-takes : (v : ℕ) (s₁ : Sheet) → head_by text ags at e s ≡ done (Head.Plain v) s₁ → takes ags w ≡ 0
+  plain-takes : (v : ℕ) (s₁ : Sheet) → head_by text ags at e s ≡ done (Some (Head.Plain v)) s₁ → takes ags w ≡ 0
   plain-takes v s₁ q = go (declared ags w) refl
     where
       go : (t : Bool) → declared ags w ≡ t → takes ags w ≡ 0
       go true d = cell-plain v s₁ (0 + symbol_of ags w) (takes ags w) s (sym (by_agent d) ∙ q)
       go false d = takes_none ags w d
 
-  some_takes : (k : CellNo) (m : ℕ) (s₁ : Sheet) → head_by text ags at e s ≡ done (Head.Takes k m) s₁
+  some_takes : (k : CellNo) (m : ℕ) (s₁ : Sheet) → head_by text ags at e s ≡ done (Some (Head.Takes k m)) s₁
       → takes ags w ≡ suc m
   some_takes k m s₁ q = go (declared ags w) refl
     where
@@ -98,24 +92,24 @@ node_right ags w n lv h = rw (eq-eqb n (takes ags w) h)
 pub record TermOnly (text : List ℕ) (ags : List Agent) (t : Term) : Type 0 where
   pub only : (l at p v : ℕ) (s s₁ : Sheet) (rest : List ℕ) → worded t ≡ true → drop at text ≡ spell t ++ rest
       → Stops rest
-      → term_by text ags l at s ≡ done (Got.Read p v) s₁
+      → term_by text ags l at s ≡ done (read p v) s₁
       → ((lv : ℕ) → any (wrong_args ags) (nodes_at lv t) ≡ false) × (p ≡ at + length (spell t))
 
 pub record ArgsOnly (text : List ℕ) (ags : List Agent) (ts : Terms) : Type 0 where
   pub only : (l more c k at p v : ℕ) (s s₁ : Sheet) (rest : List ℕ) → 0 < count ts → wordeds ts ≡ true
       → drop at text ≡ inner ts ++ rest
-      → args_by text (term_by text ags l) more c k at s ≡ done (Got.Read p v) s₁
+      → args_by text (term_by text ags l) more c k at s ≡ done (read p v) s₁
       → (count ts ≡ suc more) × ((lv : ℕ) → any (wrong_args ags) (nodes_in lv ts) ≡ false) × (p ≡ at + length (inner ts))
 
 -- what is read goes on from there
-on_read_lem : (X : Done Got) (f : ℕ → ℕ → Sheet → Done Got) (p v : ℕ) (s₁ : Sheet)
-    → on_read Got.Wrong X f ≡ done (Got.Read p v) s₁
-    → (q : ℕ) × (u : ℕ) × (s₂ : Sheet) × (X ≡ done (Got.Read q u) s₂) × (f q u s₂ ≡ done (Got.Read p v) s₁)
+on_read_lem : (X : Done (Option Read)) (f : ℕ → ℕ → Sheet → Done (Option Read)) (p v : ℕ) (s₁ : Sheet)
+    → on_read X f ≡ done (read p v) s₁
+    → (q : ℕ) × (u : ℕ) × (s₂ : Sheet) × (X ≡ done (read q u) s₂) × (f q u s₂ ≡ done (read p v) s₁)
 unfolding on_read
-on_read_lem (done Got.Wrong s) f p v s₁ e = let z : ◌≡◌ {A = ℕ} 0 1 = cc in absurd (omega arith)
-on_read_lem (done (Got.Read q u) s) f p v s₁ e = (q, u, s, refl, e)
+on_read_lem (done None s) f p v s₁ e = let z : ◌≡◌ {A = ℕ} 0 1 = cc in absurd (omega arith)
+on_read_lem (done (Some r) s) f p v s₁ e = (r.next, r.code, s, refl, e)
 
-brackets-ends : (ts : Terms) (rest : List ℕ) → Stops rest → Ends (brackets ts ++ rest)
+pub brackets-ends : (ts : Terms) (rest : List ℕ) → Stops rest → Ends (brackets ts ++ rest)
 unfolding brackets
 brackets-ends nil rest st = stops-ends rest st
 brackets-ends (cons t ts) rest st = open_ends ((spell t ++ closing ts) ++ rest)
@@ -127,13 +121,16 @@ Said ags t at p = ((lv : ℕ) → any (wrong_args ags) (nodes_at lv t) ≡ false
 abbrev SaidArgs : List Agent → Terms → ℕ → ℕ → ℕ → Type 0
 SaidArgs ags ts more at p = (count ts ≡ suc more) × ((lv : ℕ) → any (wrong_args ags) (nodes_in lv ts) ≡ false) × (p ≡ at + length (inner ts))
 
-read_next : (a p u v : ℕ) (s t : Sheet) → done (Got.Read (a + 1) u) s ≡ done (Got.Read p v) t → a + 1 ≡ p
-read_next a p u v s t e = cc
+next_same : (r q : Read) (s t : Sheet) → done (Some r) s ≡ done (Some q) t → r.next ≡ q.next
+next_same r q s t e = let z : r ≡ q = cc in ap (λ (x : Read). x.next) z
+
+read_next : (a p u v : ℕ) (s t : Sheet) → done (read (a + 1) u) s ≡ done (read p v) t → a + 1 ≡ p
+read_next a p u v s t e = next_same (record { next = a + 1; code = u }) (record { next = p; code = v }) s t e
 
 said_at : (ags : List Agent) (t : Term) (at : ℕ) {p q : ℕ} → p ≡ q → Said ags t at p → Said ags t at q
 said_at ags t at e h = (h.0, sym e ∙ h.1)
 
-term-zero : (text : List ℕ) (ags : List Agent) (at : ℕ) (s : Sheet) → term_by text ags 0 at s ≡ done Got.Wrong s
+term-zero : (text : List ℕ) (ags : List Agent) (at : ℕ) (s : Sheet) → term_by text ags 0 at s ≡ done None s
 unfolding term_by
 term-zero text ags at s = refl
 
@@ -155,7 +152,7 @@ module _ (text : List ℕ) (ags : List Agent) where
   some_said : (w : Word) (ts : Terms) → ArgsOnly text ags ts → (l at p v m c : ℕ) (s s₁ : Sheet) (rest : List ℕ)
       → identifier w ≡ true → wordeds ts ≡ true
       → drop at text ≡ w ++ (brackets ts ++ rest) → Stops rest → get_or text (at + length w) 0 ≡ 40 → takes ags w ≡ suc m
-      → args_by text (term_by text ags l) m c 0 (at + length w + 1) s ≡ done (Got.Read p v) s₁ → Said ags (term w ts) at p
+      → args_by text (term_by text ags l) m c 0 (at + length w + 1) s ≡ done (read p v) s₁ → Said ags (term w ts) at p
   unfolding brackets spell nodes_at any count inner
   some_said w nil U l at p v m c s s₁ rest ok wd e st b z q = absurd (word-stops text at w rest ok e st b)
   some_said w (cons t us) U l at p v m c s s₁ rest ok wd e st b z q =
@@ -168,25 +165,25 @@ module _ (text : List ℕ) (ags : List Agent) where
   module _
       (w : Word) (ts : Terms) (U : ArgsOnly text ags ts) (l at p v : ℕ) (s s₁ : Sheet) (rest : List ℕ) (ok : identifier w ≡ true) (wd : wordeds ts ≡ true)
       (e : drop at text ≡ w ++ (brackets ts ++ rest)) (st : Stops rest) where
-    after_head_lem : (X : Done Head) → head_by text ags at (at + length w) s ≡ X
-        → after_head text (args_by text (term_by text ags l)) (at + length w) X ≡ done (Got.Read p v) s₁
+    after_head_lem : (X : Done (Option Head)) → head_by text ags at (at + length w) s ≡ X
+        → after_head text (args_by text (term_by text ags l)) (at + length w) X ≡ done (read p v) s₁
         → Said ags (term w ts) at p
     unfolding after_head
-    after_head_lem (done Head.Wrong s₂) h q = absurd (let z : ◌≡◌ {A = ℕ} 0 1 = cc in omega arith)
-    after_head_lem (done (Head.Plain u) s₂) h q = go (eqb (get_or text (at + length w) 0) 40) refl q
+    after_head_lem (done None s₂) h q = absurd (let z : ◌≡◌ {A = ℕ} 0 1 = cc in omega arith)
+    after_head_lem (done (Some (Head.Plain u)) s₂) h q = go (eqb (get_or text (at + length w) 0) 40) refl q
       where
         go : (t : Bool) → eqb (get_or text (at + length w) 0) 40 ≡ t
-            → cond t (done Got.Wrong s₂) (done (Got.Read (at + length w) u) s₂) ≡ done (Got.Read p v) s₁
+            → cond t (done None s₂) (done (read (at + length w) u) s₂) ≡ done (read p v) s₁
             → Said ags (term w ts) at p
         go true b r = absurd (let z : ◌≡◌ {A = ℕ} 0 1 = cc in omega arith)
         go false b r =
-            let y : at + length w ≡ p = cc in
+            let y : at + length w ≡ p = next_same (record { next = at + length w; code = u }) (record { next = p; code = v }) s₂ s₁ r in
             said_at ags (term w ts) at y (plain-said w ts at rest (skip text at w (brackets ts ++ rest) e) (eqb-false _ 40 b)
             (plain-takes text ags at (at + length w) s w (word_here text at w (brackets ts ++ rest) ok e) u s₂ h))
-    after_head_lem (done (Head.Takes c m) s₂) h q = go (eqb (get_or text (at + length w) 0) 40) refl q
+    after_head_lem (done (Some (Head.Takes c m)) s₂) h q = go (eqb (get_or text (at + length w) 0) 40) refl q
       where
         go : (t : Bool) → eqb (get_or text (at + length w) 0) 40 ≡ t
-            → cond t (args_by text (term_by text ags l) m c.0 0 (at + length w + 1) s₂) (done Got.Wrong s₂) ≡ done (Got.Read p v) s₁
+            → cond t (args_by text (term_by text ags l) m c.0 0 (at + length w + 1) s₂) (done None s₂) ≡ done (read p v) s₁
             → Said ags (term w ts) at p
         go true b r =
             some_said w ts U l at p v m c.0 s₂ s₁ rest ok wd e st (eqb-true _ 40 b)
@@ -195,10 +192,10 @@ module _ (text : List ℕ) (ags : List Agent) where
 
   by_level : (w : Word) (ts : Terms) → ArgsOnly text ags ts → (l at p v : ℕ) (s s₁ : Sheet) (rest : List ℕ)
       → identifier w ≡ true → wordeds ts ≡ true
-      → drop at text ≡ w ++ (brackets ts ++ rest) → Stops rest → term_by text ags l at s ≡ done (Got.Read p v) s₁
+      → drop at text ≡ w ++ (brackets ts ++ rest) → Stops rest → term_by text ags l at s ≡ done (read p v) s₁
       → Said ags (term w ts) at p
   by_level w ts U zero at p v s s₁ rest ok wd e st q =
-      let r : done Got.Wrong s ≡ done (Got.Read p v) s₁ = sym (term-zero text ags at s) ∙ q in
+      let r : done None s ≡ done (read p v) s₁ = sym (term-zero text ags at s) ∙ q in
       absurd (let z : ◌≡◌ {A = ℕ} 0 1 = cc in omega arith)
   by_level w ts U (suc k) at p v s s₁ rest ok wd e st q =
       let some = identifier_some w ok in
@@ -217,7 +214,7 @@ module _ (text : List ℕ) (ags : List Agent) where
   -- after an argument: the bracket where it is the last, a comma where it is not
   close-said : (t : Term) (us : Terms) (at p v q u c k : ℕ) (s s₁ : Sheet) (rest : List ℕ)
       → drop q text ≡ closing us ++ rest → q ≡ at + length (spell t)
-      → ((lv : ℕ) → any (wrong_args ags) (nodes_at lv t) ≡ false) → last_arg text c k q u s ≡ done (Got.Read p v) s₁
+      → ((lv : ℕ) → any (wrong_args ags) (nodes_at lv t) ≡ false) → last_arg text c k q u s ≡ done (read p v) s₁
       → SaidArgs ags (cons t us) 0 at p
   unfolding last_arg closing inner count nodes_in any
   close-said t nil at p v q u c k s s₁ rest d h f r =
@@ -226,18 +223,18 @@ module _ (text : List ℕ) (ags : List Agent) where
       (refl, λ lv. rw (append-nil (nodes_at lv t)) (f lv), omega (arith, length-append (spell t) (41 ∷ [])))
   close-said t (cons x xs) at p v q u c k s s₁ rest d h f r =
       let b : eqb (get_or text q 0) 41 ≡ false = ne_eqb (get_or text q 0) 41 (λ y. omega (arith, here text q 44 ((spell x ++ closing xs) ++ rest) d)) in
-      let y : done Got.Wrong (argued c k u s) ≡ done (Got.Read p v) s₁ = rw b at r in
+      let y : done None (argued c k u s) ≡ done (read p v) s₁ = rw b at r in
       absurd (let z : ◌≡◌ {A = ℕ} 0 1 = cc in omega arith)
 
   comma_said : (t : Term) (us : Terms) → ArgsOnly text ags us
       → (l m at p v q u c k : ℕ) (s s₁ : Sheet) (rest : List ℕ) → wordeds us ≡ true → drop q text ≡ closing us ++ rest
       → q ≡ at + length (spell t) → ((lv : ℕ) → any (wrong_args ags) (nodes_at lv t) ≡ false)
-      → next_arg text (args_by text (term_by text ags l) m c (k + 1)) c k q u s ≡ done (Got.Read p v) s₁
+      → next_arg text (args_by text (term_by text ags l) m c (k + 1)) c k q u s ≡ done (read p v) s₁
       → SaidArgs ags (cons t us) (suc m) at p
   unfolding next_arg closing inner count nodes_in any
   comma_said t nil U l m at p v q u c k s s₁ rest wd d h f r =
       let b : eqb (get_or text q 0) 44 ≡ false = ne_eqb (get_or text q 0) 44 (λ y. omega (arith, here text q 41 rest d)) in
-      let y : done Got.Wrong (argued c k u s) ≡ done (Got.Read p v) s₁ = rw b at r in
+      let y : done None (argued c k u s) ≡ done (read p v) s₁ = rw b at r in
       absurd (let z : ◌≡◌ {A = ℕ} 0 1 = cc in omega arith)
   comma_said t (cons x xs) U l m at p v q u c k s s₁ rest wd d h f r =
       let tail : List ℕ = (spell x ++ closing xs) ++ rest in
@@ -257,7 +254,7 @@ module _ (text : List ℕ) (ags : List Agent) where
     where
       by_more : (l more c k at p v : ℕ) (s s₁ : Sheet) (rest : List ℕ) → (worded t ≡ true) × (wordeds us ≡ true)
           → drop at text ≡ spell t ++ (closing us ++ rest)
-          → args_by text (term_by text ags l) more c k at s ≡ done (Got.Read p v) s₁ → SaidArgs ags (cons t us) more at p
+          → args_by text (term_by text ags l) more c k at s ≡ done (read p v) s₁ → SaidArgs ags (cons t us) more at p
       by_more l zero c k at p v s s₁ rest wd e q =
           let R = on_read_lem (term_by text ags l at s) (last_arg text c k) p v s₁ q in
           let D = T.only l at R.0 R.1 s R.2 (closing us ++ rest) wd.0 e (closing-stops us rest) R.3 in

@@ -1,11 +1,6 @@
 -- A term that is spelled in the text is read as that term. Assumes nothing.
-use Rattle.std.specs.Prelude.{ℕ, suc, ◌+◌, ◌-◌, ◌*◌, ◌<◌, ◌≤◌, ◌≡◌, Bool, not, ◌&&◌, List, [], ◌∷◌, ◌++◌, leb, eqb, get_or, drop}
-use Rattle.std.proofs.Math.Path.{refl}
-use Rattle.std.proofs.Common.{sym, ◌∙◌}
-use Rattle.std.proofs.Math.Bool.{true, false, cond}
-use native.Mathlib.Omega.{arith}
-use Rattle.std.proofs.Math.ListN.{length, length-append}
-use borrow.Author.Tests.{lt-ltb, le-leb}
+use Rattle.std.specs.Prelude.{None, Some, ℕ, suc, ◌+◌, ◌-◌, ◌*◌, ◌<◌, ◌≤◌, ◌≡◌, Bool, not, ◌&&◌, List, [], ◌∷◌, ◌++◌, leb, eqb, get_or, drop, refl, true, false, cond, length}
+use Rattle.std.proofs.Common.{sym, ◌∙◌, arith, length-append, lt-ltb, le-leb}
 use Rattle.parts.specs.Limits.{text_max, identifier_max, arity_max, level_max, net_names_max}
 use Rattle.parts.specs.Sides.{name, cell, code}
 use Rattle.texts.specs.Bytes.{Word, keep, among, index_of}
@@ -16,14 +11,12 @@ use Rattle.texts.specs.Coded.{symbol_of, code_at, cells_at}
 use Rattle.texts.proofs.Beneath.Tools.{keep_append}
 use Rattle.terms.specs.Sheet.{Sheet, entered}
 use Rattle.terms.specs.Words.{entries}
-use Rattle.terms.specs.Reader.{done, fits, head_by, args_by, term_by}
+use Rattle.terms.specs.Reader.{read, done, fits, head_by, args_by, term_by}
 use Rattle.terms.specs.Meaning.{number, side_at, sides_within, term_cells, terms_cells, Sized, CellsAre, Narrow, Named, grown}
 use Rattle.terms.proofs.Beneath.Numbers.{found_none, index_in, index_out, index_on, index_last, among_last}
 use Rattle.terms.proofs.Beneath.Spelt.{word_here, word-inside}
 use Rattle.terms.proofs.Beneath.Written.{Same, entered-sized, entered-count, entered-symbols, entered-arguments, entered-named}
 use Rattle.terms.proofs.Beneath.Heads.{name_old, name_new, head-name}
-use Rattle.terms.specs.declared.words.Found.{Found}
-use Rattle.terms.specs.declared.Got.{Got}
 use Rattle.terms.specs.declared.Head.{Head}
 use Rattle.terms.specs.Reads.{inner}
 
@@ -57,7 +50,7 @@ pub record Wrote (s t : Sheet) (m : ℕ) (cs : List Cell) : Type 0 where
 
 pub record TermDone (text : List ℕ) (ags : List Agent) (W : List Word) (l at m : ℕ) (s : Sheet) (ws : List Word) (t : Term) : Type 0 where
   pub after : Sheet
-  pub reads : done (Got.Read (at + length (spell t)) (code (side_at ags (number W) m t))) after ≡ term_by text ags l at s
+  pub reads : done (read (at + length (spell t)) (code (side_at ags (number W) m t))) after ≡ term_by text ags l at s
   pub wrote : Wrote s after m (term_cells ags (number W) m t)
   pub kept : Same s.arguments after.arguments 0 (arity_max * m)
   pub size : length (term_cells ags (number W) m t) ≡ tally ags (words t)
@@ -65,7 +58,7 @@ pub record TermDone (text : List ℕ) (ags : List Agent) (W : List Word) (l at m
 
 pub record ArgsDone (text : List ℕ) (ags : List Agent) (W : List Word) (l more c k at m : ℕ) (s : Sheet) (ws : List Word) (ts : Terms) : Type 0 where
   pub after : Sheet
-  pub reads : done (Got.Read (at + length (inner ts)) (code (cell c))) after ≡ args_by text (term_by text ags l) more c k at s
+  pub reads : done (read (at + length (inner ts)) (code (cell c))) after ≡ args_by text (term_by text ags l) more c k at s
   pub wrote : Wrote s after m (terms_cells ags (number W) m ts)
   pub below : Same s.arguments after.arguments 0 (arity_max * c + k)
   pub above : Same s.arguments after.arguments (arity_max * c + k + count ts) (arity_max * m)
@@ -121,7 +114,7 @@ tally-append ags us vs = rw (keep_append (declared ags) us vs) (length-append (k
 -- a name is found on the sheet, or entered
 pub record NameDone (text : List ℕ) (ags : List Agent) (W : List Word) (at : ℕ) (s : Sheet) (ws : List Word) (w : Word) : Type 0 where
   pub after : Sheet
-  pub heads : done (Head.Plain (code (name (index_of w W)))) after ≡ head_by text ags at (at + length w) s
+  pub heads : done (Some (Head.Plain (code (name (index_of w W))))) after ≡ head_by text ags at (at + length w) s
   pub sized : Sized after
   pub count : after.cells ≡ s.cells
   pub symbols : after.symbols ≡ s.symbols
@@ -152,7 +145,7 @@ module _
           let i : index_of w W ≡ index_of w ws = rw (← f) (index_on w ws zs q) in
           record {
             after = s;
-            heads = head-name text ags at (at + length w) s w (sym (word_here text at w rest ok e)) Found.Nothing (sym (found_none ags w 0 d)) refl
+            heads = head-name text ags at (at + length w) s w (sym (word_here text at w rest ok e)) None (sym (found_none ags w 0 d)) refl
                 (name_old text at (at + length w) s.names s refl (omega (arith, n.count)) w (sym (word_here text at w rest ok e)) (index_of w ws) (number_at (index_of w ws) refl)
                 (omega (arith, n.count, index_in w ws q)) (rw i));
             sized = z;
@@ -168,7 +161,7 @@ module _
           let y : at + length w - at ≡ length w = omega arith in
           record {
             after = entered s.names at (at + length w - at) s;
-            heads = head-name text ags at (at + length w) s w (sym (word_here text at w rest ok e)) Found.Nothing (sym (found_none ags w 0 d)) refl
+            heads = head-name text ags at (at + length w) s w (sym (word_here text at w rest ok e)) None (sym (found_none ags w 0 d)) refl
                 (name_new text at (at + length w) s.names s refl (omega (arith, n.count)) w (sym (word_here text at w rest ok e)) (index_of w ws) (number_at (index_of w ws) refl)
                 (omega (arith, n.count)) (fits_here a) refl (entered s.names at (at + length w - at) s) refl (rw (i, n.count)));
             sized = entered-sized text s ws at (at + length w - at) z n a;

@@ -1,15 +1,8 @@
 -- An array that is laid out for some agents stands for them. Assumes nothing.
-use Prim.Native.Nat.{ℕ, zero, suc, ◌+◌, ◌-◌, ◌*◌, ◌≤◌}
-use Rattle.std.specs.Prelude.{◌≡◌, true, eqb, leb, get_or}
-use Rattle.std.proofs.Math.Path.{refl, ap}
-use Rattle.std.proofs.Common.{sym, ◌∙◌, length-append, drop-drop, drop_at, get_or-drop}
-use Rattle.std.proofs.Math.Bool.{not}
-use mathlib.Core.List.{List, [], ◌∷◌, ◌++◌, append_assoc}
-use native.Mathlib.Omega.{arith}
-use Rattle.std.proofs.Math.ListN.{length, drop, replicate}
+use Rattle.std.specs.Prelude.{ℕ, zero, suc, ◌+◌, ◌-◌, ◌*◌, ◌≤◌, ◌≡◌, true, eqb, leb, get_or, refl, not, List, [], ◌∷◌, ◌++◌, length, drop, replicate}
+use Rattle.std.proofs.Common.{ap, sym, ◌∙◌, length-append, drop-drop, drop_at, get_or-drop, append_assoc, arith, take_at, leb-true, ne_eqb, eq-eqb}
 use Rattle.std.proofs.lemmas.List.{length-replicate, get_or_at}
-use Rattle.std.proofs.Math.Seq.{take_at}
-use borrow.Author.Tests.{leb-true, ne_eqb, eq-eqb, not-true}
+use borrow.Author.Tests.{not-true}
 use Rattle.parts.specs.Limits.{identifier_max, symbols_max, agent_size}
 use Rattle.texts.specs.Bytes.{Word, all}
 use Rattle.texts.specs.Books.{Agent}

@@ -1,12 +1,6 @@
 -- Every term that is spelled in the text is read as that term, by the shape of the term. Assumes nothing.
-use Prim.Native.Nat.{ℕ, zero, suc, ◌+◌, ◌-◌, ◌*◌, ◌<◌, ◌≤◌}
-use Rattle.std.specs.Prelude.{◌≡◌, Bool, ◌&&◌, leb, eqb}
-use Rattle.std.proofs.Math.Path.{refl, sym, ap}
-use Rattle.std.proofs.Common.{◌∙◌, leb-true, eqb-true}
-use Rattle.std.proofs.Math.Bool.{true, false}
-use mathlib.Core.List.{List, [], ◌∷◌, ◌++◌, append_assoc, append-nil}
-use native.Mathlib.Omega.{arith}
-use Rattle.std.proofs.Math.ListN.{length, get_or, drop, length-append}
+use Rattle.std.specs.Prelude.{Some, ℕ, zero, suc, ◌+◌, ◌-◌, ◌*◌, ◌<◌, ◌≤◌, ◌≡◌, Bool, ◌&&◌, leb, eqb, refl, true, false, List, [], ◌∷◌, ◌++◌, length, get_or, drop}
+use Rattle.std.proofs.Common.{sym, ap, ◌∙◌, leb-true, eqb-true, append_assoc, append-nil, arith, length-append, eq-eqb, ne_eqb}
 use Rattle.parts.specs.Limits.{text_max, identifier_max, arity_max, level_max, net_cells_max, net_names_max}
 use Rattle.parts.specs.Sides.{Side, name, code}
 use Rattle.texts.specs.Bytes.{Word, all, keep}
@@ -16,7 +10,7 @@ use Rattle.model.specs.Table.{Cell}
 use Rattle.texts.specs.Coded.{symbol_of, size, codes, cells_from}
 use Rattle.texts.proofs.Beneath.Tools.{both, all_left, all_right}
 use Rattle.terms.specs.Sheet.{Sheet, argued, opened}
-use Rattle.terms.specs.Words.{found}
+use Rattle.terms.specs.Words.{known, found}
 use Rattle.terms.specs.Reader.{term_by}
 use Rattle.terms.specs.Meaning.{number, side_at, sides_within, term_cells, terms_cells, Sized, CellsAre, Narrow, Named, grown, Stops}
 use Rattle.terms.proofs.Beneath.Numbers.{found-agent, takes_none, grown-append, grown_longer, grown_on}
@@ -26,7 +20,6 @@ use Rattle.terms.proofs.Beneath.Heads.{cell-plain, cell-takes, head-cell}
 use Rattle.terms.proofs.Beneath.Ways.{args-close, args_comma, term-plain, term-args}
 use Rattle.terms.specs.Reads.{inner}
 use Rattle.terms.proofs.Beneath.Reads.{right, words, words_in, names, tally, Wrote, TermDone, ArgsDone, name-side, name-cells, name-names, name_tally, agent-side, agent-cells, agent-names, agent-tally, names-append, tally-append, name-head}
-use Rattle.terms.specs.declared.words.Found.{Found}
 
 -- a term is read, wherever it stands with room for it
 pub record TermReads (text : List ℕ) (ags : List Agent) (W : List Word) (t : Term) : Type 0 where
@@ -118,7 +111,7 @@ more_args p b n x xs e f zero h = let z : b + 0 ≡ b = omega arith in rw z e
 more_args p b n x xs e f (suc j) h = let z : b + suc j ≡ b + 1 + j = omega arith in rw z (f j (omega arith))
 
 found-zero : (ags : List Agent) (w : Word) → declared ags w ≡ true
-    → found 0 ags w ≡ Found.Agent (record { 0 = symbol_of ags w }) (takes ags w)
+    → found 0 ags w ≡ Some (known (symbol_of ags w) (takes ags w))
 found-zero ags w d = let y : 0 + symbol_of ags w ≡ symbol_of ags w = omega arith in rw y at (found-agent ags w 0 d)
 
 wrote_none : (s t : Sheet) (m : ℕ) → Sized t → t.cells ≡ m → Same s.symbols t.symbols 0 m → Wrote s t m []
@@ -157,8 +150,8 @@ module _ (text : List ℕ) (ags : List Agent) (W : List Word) (short : length te
         record {
           after = D.after;
           reads = rw (sp, name-side ags W m w nil d)
-              (term-plain text ags l at s (λ y. omega (arith, h.level)) (word-ends text at w rest ok e' (stops-ends rest st)) (λ y. omega arith) D.after D.heads refl refl
-              (word-stops text at w rest ok e' st));
+              (term-plain text ags l at s (λ y. omega (arith, h.level)) (word-ends text at w rest ok e' (stops-ends rest st)) (λ y. omega arith) D.after D.heads refl refl refl
+              (ne_eqb _ 40 (word-stops text at w rest ok e' st)));
           wrote = rw cs (wrote_none s D.after m D.sized (D.count ∙ em) sy);
           kept = λ i a b. ap (λ (x : List ℕ). get_or x i 0) D.arguments;
           size = rw (cs, name_tally ags W 0 w nil d [], tally_none ags);
@@ -186,9 +179,9 @@ module _ (text : List ℕ) (ags : List Agent) (W : List Word) (short : length te
           after = o;
           reads = rw (sp, agent-side ags W m w nil d)
               (term-plain text ags l at s (λ y. omega (arith, h.level)) (word-ends text at w rest ok e' (stops-ends rest st)) (λ y. omega arith) o
-              (head-cell text ags at (at + length w) s w (sym (word_here text at w rest ok e')) (Found.Agent (record { 0 = symbol_of ags w }) (takes ags w)) (sym (found-zero ags w d)) refl
-              (cell-plain s (symbol_of ags w) (takes ags w) m (sym em) r (narrow w) o refl (sym h.arity) refl)) refl refl
-              (word-stops text at w rest ok e' st));
+              (head-cell text ags at (at + length w) s w (sym (word_here text at w rest ok e')) (Some (known (symbol_of ags w) (takes ags w))) (sym (found-zero ags w d)) refl
+              (cell-plain s (symbol_of ags w) (takes ags w) m (sym em) r (narrow w) o refl (sym h.arity) refl)) refl refl refl
+              (ne_eqb _ 40 (word-stops text at w rest ok e' st)));
           wrote = rw cs (record {
             sized = opened-sized s m (symbol_of ags w) z r;
             count = oc;
@@ -229,9 +222,9 @@ module _ (text : List ℕ) (ags : List Agent) (W : List Word) (short : length te
           after = A.after;
           reads = rw (← len, agent-side ags W m w ts d)
               (term-args text ags l at s (λ y. omega (arith, h.level)) (word-ends text at w (40 ∷ (inner ts ++ rest)) ok e' (open_ends (inner ts ++ rest))) (λ y. omega arith) o
-              (head-cell text ags at (at + length w) s w (sym (word_here text at w (40 ∷ (inner ts ++ rest)) ok e')) (Found.Agent (record { 0 = symbol_of ags w }) (takes ags w)) (sym (found-zero ags w d)) refl
-              (cell-takes s (symbol_of ags w) (takes ags w) m (sym em) r (narrow w) o refl (λ y. omega (arith, h.arity)))) refl refl
-              (here text (at + length w) 40 (inner ts ++ rest) dn) A.reads);
+              (head-cell text ags at (at + length w) s w (sym (word_here text at w (40 ∷ (inner ts ++ rest)) ok e')) (Some (known (symbol_of ags w) (takes ags w))) (sym (found-zero ags w d)) refl
+              (cell-takes s (symbol_of ags w) (takes ags w) m (sym em) r (narrow w) o refl (λ y. omega (arith, h.arity)))) refl refl refl
+              (eq-eqb _ 40 (here text (at + length w) 40 (inner ts ++ rest) dn)) A.reads);
           wrote = rw (agent-cells ags W m w ts d) (record {
             sized = A.wrote.sized;
             count = A.wrote.count ∙ omega arith;

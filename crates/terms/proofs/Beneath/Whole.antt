@@ -1,9 +1,7 @@
 -- The meaning of a whole field, from that of its term. Assumes nothing.
-use Rattle.std.specs.Prelude.{ℕ, ◌+◌, ◌-◌, ◌≤◌, ◌≡◌, Bool, true, false, cond, not, ◌&&◌, ◌||◌, List, [], ◌∷◌, ◌++◌, leb, ltb, take, drop}
-use Rattle.std.proofs.Math.Path.{refl}
-use Rattle.std.proofs.Common.{sym, ap, ◌∙◌, append-nil, append_assoc, arith, length-drop, take-append-drop, length-append, drop-drop, length-take-le}
-use Rattle.std.proofs.Math.ListN.{length}
-use borrow.Author.Tests.{eq-eqb, ltb-false, leb-true, le-leb, not-false}
+use Rattle.std.specs.Prelude.{Option, None, Some, ℕ, ◌+◌, ◌-◌, ◌≤◌, ◌≡◌, Bool, true, false, cond, not, ◌&&◌, ◌||◌, List, [], ◌∷◌, ◌++◌, leb, ltb, take, drop, refl, length}
+use Rattle.std.proofs.Common.{sym, ap, ◌∙◌, append-nil, append_assoc, arith, length-drop, take-append-drop, length-append, drop-drop, length-take-le, eq-eqb, ltb-false, leb-true, le-leb}
+use borrow.Author.Tests.{not-false}
 use Rattle.parts.specs.Limits.{arity_max, level_max, identifier_max}
 use Rattle.parts.specs.Sides.{code}
 use Rattle.texts.specs.Bytes.{Word, any, all, keep, same, among, different}
@@ -14,14 +12,13 @@ use Rattle.texts.specs.RuleText.{wrong_args, big_node, is_too_long}
 use Rattle.texts.proofs.Beneath.Spelling.{spell-term}
 use Rattle.texts.proofs.Beneath.Tools.{never, never', both, neither, any_append, same_eq, same_refl}
 use Rattle.terms.specs.Sheet.{Sheet}
-use Rattle.terms.specs.Reader.{Done, done, on_read, term_by, whole, field_by}
+use Rattle.terms.specs.Reader.{read, Done, done, on_read, term_by, whole, field_by}
 use Rattle.terms.specs.Meaning.{number, side_at, term_cells, Holds, grown, Spells, Room}
 use Rattle.terms.proofs.Beneath.Written.{cells-kept, cells-append, narrow-append}
 use Rattle.terms.proofs.Beneath.Reads.{right, words, names, tally}
 use Rattle.terms.proofs.Beneath.Trees.{named_by, cells_at, words-nodes, term-reads}
 use Rattle.terms.proofs.Beneath.Only.{term-only}
-use Rattle.terms.specs.declared.Got.{Got}
-use Rattle.terms.specs.declared.Field.{Field}
+use Rattle.terms.specs.declared.Read.{Read}
 
 -- the field stands in the text
 module _ (text : List ℕ) (from to : ℕ) (t : Term) (f : Spells text from to t) where
@@ -86,14 +83,14 @@ takes-narrow (a ∷ ags) h w =
 
 module _ (text : List ℕ) (ags : List Agent) (from to : ℕ) (s : Sheet) (t : Term) (f : Spells text from to t) where
   by_read : (W : List Word) (s₁ : Sheet) (v : ℕ)
-      → done (Got.Read (from + length (spell t)) v) s₁ ≡ term_by text ags level_max from s
-      → field_by text ags from to s ≡ done (Field.Code v) s₁
+      → done (read (from + length (spell t)) v) s₁ ≡ term_by text ags level_max from s
+      → field_by text ags from to s ≡ done (Some v) s₁
   unfolding field_by on_read whole
   by_read W s₁ v e = rw (← e, eq-eqb (from + length (spell t)) to (ending text from to t f))
 
   pub read_right : (cs : List Cell) (ws zs : List Word) → Holds text s cs ws → Room text ags (length cs) ws t
       → any (wrong_args ags) (nodes (t ∷ [])) ≡ false
-      → (s₁ : Sheet) × (field_by text ags from to s ≡ done (Field.Code (code (side_at ags (number (grown ws (names_of ags (t ∷ [])) ++ zs)) (length cs) t))) s₁)
+      → (s₁ : Sheet) × (field_by text ags from to s ≡ done (Some (code (side_at ags (number (grown ws (names_of ags (t ∷ [])) ++ zs)) (length cs) t))) s₁)
       × Holds text s₁ (cs ++ term_cells ags (number (grown ws (names_of ags (t ∷ [])) ++ zs)) (length cs) t) (grown ws (names_of ags (t ∷ [])))
   read_right cs ws zs h r ok =
       let W : List Word = grown ws (names_of ags (t ∷ [])) ++ zs in
@@ -115,15 +112,15 @@ module _ (text : List ℕ) (ags : List Agent) (from to : ℕ) (s : Sheet) (t : T
       )
 
   pub read-wrong : any (wrong_args ags) (nodes (t ∷ [])) ≡ true
-      → (s₁ : Sheet) × (field_by text ags from to s ≡ done Field.Wrong s₁)
+      → (s₁ : Sheet) × (field_by text ags from to s ≡ done None s₁)
   unfolding field_by on_read whole
   read-wrong bad = go (term_by text ags level_max from s) refl
     where
-      go : (X : Done Got) → term_by text ags level_max from s ≡ X
-          → (s₁ : Sheet) × (on_read Field.Wrong X (whole to) ≡ done Field.Wrong s₁)
-      go (done Got.Wrong s₁) e = (s₁, refl)
-      go (done (Got.Read p v) s₁) e =
-          let D = (term-only text ags t).only level_max from p v s s₁ (drop to text) (spelled text from to t f).1 (standing text from to t f) f.stops e in
+      go : (X : Done (Option Read)) → term_by text ags level_max from s ≡ X
+          → (s₁ : Sheet) × (on_read X (whole to) ≡ done None s₁)
+      go (done None s₁) e = (s₁, refl)
+      go (done (Some r) s₁) e =
+          let D = (term-only text ags t).only level_max from r.next r.code s s₁ (drop to text) (spelled text from to t f).1 (standing text from to t f) f.stops e in
           never' (sym bad ∙ (one_term (wrong_args ags) t ∙ D.0 1))
 
 -- names by first occurrence

@@ -1,11 +1,6 @@
 -- What stands on a sheet after a cell is opened, an argument set or a name entered. Assumes nothing.
-use Prim.Native.Nat.{ℕ, suc, ◌+◌, ◌*◌, ◌<◌, ◌≤◌}
-use Rattle.std.specs.Prelude.{◌≡◌, List, [], ◌∷◌, ◌++◌, get_or, set, take, drop}
-use Rattle.std.proofs.Math.Path.{refl}
-use Rattle.std.proofs.Common.{◌∙◌, get_or-set_other}
-use native.Mathlib.Omega.{arith}
-use Rattle.std.proofs.Math.ListN.{length, length-set, length-append}
-use Rattle.std.proofs.Math.Seq.{get_or-set_same}
+use Rattle.std.specs.Prelude.{ℕ, suc, ◌+◌, ◌*◌, ◌<◌, ◌≤◌, ◌≡◌, List, [], ◌∷◌, ◌++◌, get_or, set, take, drop, refl, length}
+use Rattle.std.proofs.Common.{◌∙◌, get_or-set_other, arith, length-set, length-append, get_or-set_same}
 use Rattle.parts.specs.Limits.{arity_max, net_cells_max, net_names_max}
 use Rattle.texts.specs.Bytes.{Word}
 use Rattle.model.specs.Table.{Cell}

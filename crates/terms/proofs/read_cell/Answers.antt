@@ -1,16 +1,7 @@
--- `read_cell`: one law for each way out. Assumes nothing.
-use Rattle.terms.proofs.Beneath.Heads.{cell_full, cell-wide, cell-plain, cell-takes}
-use borrow.Author.Rules.{rules}
+-- `read_cell`: a cell that takes arguments. Assumes nothing.
+use Rattle.std.proofs.Common.{arith}
+use Rattle.terms.proofs.Beneath.Heads.{cell-takes}
 use Rattle.terms.proofs.read_cell.Goals as goal
 
-pub returns-then-c-ge-NET_CELLS : goal.returns-then-c-ge-NET_CELLS
-returns-then-c-ge-NET_CELLS c = search (rules, cell_full, cell-wide)
-
-pub returns-then-arity-gt-ARITY : goal.returns-then-arity-gt-ARITY
-returns-then-arity-gt-ARITY c = search (rules, cell_full, cell-wide)
-
-pub returns-then-arity-eq0 : goal.returns-then-arity-eq0
-returns-then-arity-eq0 c = search (rules, cell-plain)
-
 pub returns : goal.returns
-returns c = search (rules, cell-takes)
+returns c = cell-takes _ _ _ _ c.cells-c.ensures (omega arith) (omega arith) _ c.open_cell.ensures c.if-arity-eq0.false

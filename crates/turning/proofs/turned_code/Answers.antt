@@ -1,6 +1,6 @@
 -- `turning::turned_code` meets its contract.
 use Rattle.turning.proofs.Turned.{turned-cell, turned_left, turned_right}
-use borrow.Author.Rules.{rules}
+use Rattle.std.proofs.Common.{rules}
 use Rattle.turning.proofs.turned_code.Goals as goal
 
 pub returns-then-x-eq1 : goal.returns-then-x-eq1

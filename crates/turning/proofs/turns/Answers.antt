@@ -1,10 +1,20 @@
 -- `turning::turns` meets its contract.
-use Rattle.turning.proofs.Turned.{turns-yes, turns_else}
-use borrow.Author.Rules.{rules}
+use Rattle.std.proofs.Common.{arith}
+use Rattle.std.proofs.lemmas.Bool.Decides.{nat_tests}
+use Rattle.turning.proofs.Turned.{turns-are}
 use Rattle.turning.proofs.turns.Goals as goal
 
-pub returns-then-same_two : goal.returns-then-same_two
-returns-then-same_two c = search (rules, turns-yes)
+pub returns-then-b-d : goal.returns-then-b-d
+returns-then-b-d c =
+    let e = turns-are c.args.row.now c.args.i c.args.j c.turned_code-a.result c.turned_code-b.result c.turned_code-a.ensures c.turned_code-b.ensures in
+    grind (arith, nat_tests)
 
-pub returns : goal.returns
-returns c = search (rules, turns_else)
+pub returns-then-a-d : goal.returns-then-a-d
+returns-then-a-d c =
+    let e = turns-are c.args.row.now c.args.i c.args.j c.turned_code-a.result c.turned_code-b.result c.turned_code-a.ensures c.turned_code-b.ensures in
+    grind (arith, nat_tests)
+
+pub returns-else-a-d : goal.returns-else-a-d
+returns-else-a-d c =
+    let e = turns-are c.args.row.now c.args.i c.args.j c.turned_code-a.result c.turned_code-b.result c.turned_code-a.ensures c.turned_code-b.ensures in
+    grind (arith, nat_tests)

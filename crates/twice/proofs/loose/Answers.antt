@@ -1,6 +1,6 @@
 -- `twice::loose` meets its contract.
+use Rattle.std.proofs.Common.{rules}
 use Rattle.twice.proofs.Counts.{loose_way}
-use borrow.Author.Rules.{rules}
 use Rattle.twice.proofs.loose.Goals as goal
 
 pub returns : goal.returns

@@ -1,6 +1,6 @@
 -- `twice::times_in_cell` meets its contract.
+use Rattle.std.proofs.Common.{rules}
 use Rattle.twice.proofs.Counts.{tally_start, tally_more, args_end}
-use borrow.Author.Rules.{rules}
 use Rattle.twice.proofs.times_in_cell.Goals as goal
 
 pub loop-k-init : goal.loop-k-init

@@ -1,6 +1,6 @@
 -- `wiring::put_cells` meets its contract.
+use Rattle.std.proofs.Common.{rules}
 use Rattle.wiring.proofs.Wires.{put_way}
-use borrow.Author.Rules.{rules}
 use Rattle.wiring.proofs.put_cells.Goals as goal
 
 pub returns : goal.returns

@@ -1,6 +1,6 @@
 -- `wiring::rename` meets its contract.
+use Rattle.std.proofs.Common.{rules}
 use Rattle.wiring.proofs.Keeps.{rename_way}
-use borrow.Author.Rules.{rules}
 use Rattle.wiring.proofs.rename.Goals as goal
 
 pub returns : goal.returns

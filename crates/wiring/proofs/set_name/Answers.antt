@@ -1,6 +1,6 @@
 -- `wiring::set_name` meets its contract.
+use Rattle.std.proofs.Common.{rules}
 use Rattle.wiring.proofs.Keeps.{renamable, set_way}
-use borrow.Author.Rules.{rules}
 use Rattle.wiring.proofs.set_name.Goals as goal
 
 pub rename-requires : goal.rename-requires

@@ -1,5 +1,5 @@
 -- `answer::lines::print_pairs` meets its contract. The measure is the pairs left.
-use borrow.Author.Rules.{rules}
+use Rattle.std.proofs.Common.{rules}
 use Rattle.answer.proofs.Tails.{pairs_end, first_pair, first_there, rest-pairs, pairs_way}
 use Rattle.answer.proofs.lines.+print_pairs.Goals as goal
 

@@ -1,6 +1,6 @@
 -- `answer::lines::print_pair` meets its contract.
 use Rattle.answer.proofs.Tails.{pair-ready, pair_row, pair_line}
-use borrow.Author.Rules.{rules}
+use Rattle.std.proofs.Common.{rules}
 use Rattle.answer.proofs.lines.print_pair.Goals as goal
 
 pub print_tail-requires : goal.print_tail-requires

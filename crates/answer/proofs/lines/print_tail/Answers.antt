@@ -1,6 +1,6 @@
 -- `answer::lines::print_tail` meets its contract.
 use Rattle.answer.proofs.Tails.{tail-ready, tail-room, tail_way}
-use borrow.Author.Rules.{rules}
+use Rattle.std.proofs.Common.{rules}
 use Rattle.answer.proofs.lines.print_tail.Goals as goal
 
 pub print_sides-r-requires : goal.print_sides-r-requires

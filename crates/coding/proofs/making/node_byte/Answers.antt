@@ -1,6 +1,6 @@
 -- `coding::making::node_byte` meets its contract.
+use Rattle.std.proofs.Common.{rules}
 use Rattle.coding.proofs.Made.{node_first, node-later}
-use borrow.Author.Rules.{rules}
 use Rattle.coding.proofs.making.node_byte.Goals as goal
 
 pub returns-then-j-eq0 : goal.returns-then-j-eq0

@@ -1,5 +1,5 @@
 -- `coding::making::nodes_of` meets its contract: the loop's invariant is `Filled`.
-use borrow.Author.Rules.{rules}
+use Rattle.std.proofs.Common.{rules}
 use Rattle.coding.proofs.Made.{filled_none, filled_end, node_more, node_there}
 use Rattle.coding.proofs.making.nodes_of.Goals as goal
 

@@ -1,5 +1,5 @@
 -- `coding::making::sides_of` meets its contract: the loop's invariant is `Filled`.
-use borrow.Author.Rules.{rules}
+use Rattle.std.proofs.Common.{rules}
 use Rattle.coding.proofs.Made.{filled_none, filled_end, side_more}
 use Rattle.coding.proofs.making.sides_of.Goals as goal
 

@@ -7,4 +7,6 @@ pub put_bytes-requires : goal.put_bytes-requires
 put_bytes-requires c = search (rules, part-fits)
 
 pub returns : goal.returns
-returns c = search (rules, read_way)
+returns c =
+    let b = rw (c.from.ensures, c.from-2.ensures) at c.put_ended-at.ensures in
+    read_way _ c.requires _ _ _ c.args.end _ _ _ _ c.part.ensures b c.put_bytes.ensures

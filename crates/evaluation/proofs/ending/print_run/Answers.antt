@@ -1,5 +1,5 @@
 -- `evaluation::ending::print_run` meets its contract.
-use Rattle.evaluation.proofs.Runs.{stop-ready, stop-ended, stop-paused, stop-noroom, not_unsound, not_too_much}
+use Rattle.evaluation.proofs.Runs.{stop-ready, stop-ended, stop-paused, stop-noroom, not_refused}
 use borrow.Author.Rules.{rules}
 use Rattle.evaluation.proofs.ending.print_run.Goals as goal
 
@@ -15,8 +15,5 @@ returns-in-Paused c = search (rules, stop-paused)
 pub returns-in-NoRoom : goal.returns-in-NoRoom
 returns-in-NoRoom c = search (rules, stop-noroom)
 
-pub returns-in-Unsound : goal.returns-in-Unsound
-returns-in-Unsound c = search (rules, not_unsound)
-
-pub returns-in-TooMuch : goal.returns-in-TooMuch
-returns-in-TooMuch c = search (rules, not_too_much)
+pub returns-in-Err : goal.returns-in-Err
+returns-in-Err c = search (rules, not_refused)

@@ -1,10 +1,7 @@
 -- `field_tests::sizes::first_big` meets its contract: the loop's invariant is `Sought`.
-use borrow.Author.Rules.{rules}
-use Rattle.field_tests.proofs.Bounds.{sought_none, sought_more, sought_hit, sought_end}
+use Rattle.std.proofs.Common.{rules}
+use Rattle.field_tests.proofs.Bounds.{sought_more, sought_hit, sought_end}
 use Rattle.field_tests.proofs.sizes.first_big.Goals as goal
-
-pub loop-i-init : goal.loop-i-init
-loop-i-init c = sought_none _
 
 pub returns-then-passes : goal.returns-then-passes
 returns-then-passes c = search (rules, sought_hit)

@@ -7,10 +7,10 @@ pub take-taken-requires : goal.take-taken-requires
 take-taken-requires c = search (rules, room_left)
 
 pub build-requires : goal.build-requires
-build-requires c = (search rules, search (rules, cells_in), search (rules, waits-fit))
+build-requires c = (search (rules, cells_in), search (rules, waits-fit))
 
-pub returns : goal.returns
-returns c = record {
-  state_after = search (rules, fire_way);
-  right = search (rules, right_way);
-}
+pub returns-clause-state_after : goal.returns-clause-state_after
+returns-clause-state_after c = search (rules, fire_way)
+
+pub returns-clause-right : goal.returns-clause-right
+returns-clause-right c = search (rules, right_way)

@@ -1,37 +1,22 @@
--- `pass_term` and `pass_args`: the measure falls with the levels left, and with the arguments left. Assumes nothing.
-use borrow.Author.Rules.{rules}
-use Rattle.line_terms.proofs.Arguing.{at_word_end, args-wrong, args-close, args_unclosed, args_comma, args-few, term_none, term_bracket, term-word, term-args, term-bare}
+-- `pass_term` and `pass_args`: one law for each way out. Assumes nothing.
+use Rattle.std.proofs.Common.{arith}
+use Rattle.line_terms.proofs.Arguing.{args-wrong, args-close, args_comma, args_other}
 use Rattle.line_terms.proofs.arguments.+pass_args_pass_term.Goals as goal
 
-pub pass_args-returns-then-b-eq41 : goal.pass_args-returns-then-b-eq41
-pass_args-returns-then-b-eq41 t c = search (rules, args-close)
+pub pass_args-returns-in_err-next : goal.pass_args-returns-in_err-next
+pass_args-returns-in_err-next t c = args-wrong _ _ _ _ c.pass_term.ensures c.in_err-next.was c.from_residual.ensures
 
-pub pass_args-returns-then-more-eq0 : goal.pass_args-returns-then-more-eq0
-pass_args-returns-then-more-eq0 t c = search (rules, args_unclosed)
+pub pass_args-returns-in-41 : goal.pass_args-returns-in-41
+pass_args-returns-in-41 t c = args-close _ _ _ _ c.pass_term.ensures c.in_ok-next.was c.byte_at.ensures.is (omega arith) (omega arith)
 
-pub pass_args-returns-then-b-eq44 : goal.pass_args-returns-then-b-eq44
-pass_args-returns-then-b-eq44 t c = search (rules, args_comma)
+pub pass_args-returns-in-44 : goal.pass_args-returns-in-44
+pass_args-returns-in-44 t c = args_comma _ _ _ _ c.pass_term.ensures c.in_ok-next.was c.byte_at.ensures.is (λ z. omega arith) (omega arith) c.pass_args.ensures
 
-pub pass_args-returns-in-Wrong : goal.pass_args-returns-in-Wrong
-pass_args-returns-in-Wrong t c = search (rules, args-wrong, args-few)
+pub pass_args-returns-in_default : goal.pass_args-returns-in_default
+pass_args-returns-in_default t c = args_other _ _ _ _ c.pass_term.ensures c.in_ok-next.was c.byte_at.ensures.is (λ z e. omega arith) (λ z e. omega arith)
 
-pub pass_args-returns-else-b-eq44 : goal.pass_args-returns-else-b-eq44
-pass_args-returns-else-b-eq44 t c = search (rules, args-wrong, args-few)
+pub pass_args-returns-in_default-2 : goal.pass_args-returns-in_default-2
+pass_args-returns-in_default-2 t c = args_other _ _ _ _ c.pass_term.ensures c.in_ok-next.was c.byte_at.ensures.is (λ z e. omega arith) (λ z e. omega arith)
 
-pub pass_term-returns-then-levels-eq0 : goal.pass_term-returns-then-levels-eq0
-pass_term-returns-then-levels-eq0 t c = search (rules, term_none)
-
-pub pass_term-takes_of-n-requires : goal.pass_term-takes_of-n-requires
-pass_term-takes_of-n-requires t c = search (rules, at_word_end)
-
-pub pass_term-returns-then-b-eq40 : goal.pass_term-returns-then-b-eq40
-pass_term-returns-then-b-eq40 t c = search (rules, term_bracket)
-
-pub pass_term-returns-then-n-eq0 : goal.pass_term-returns-then-n-eq0
-pass_term-returns-then-n-eq0 t c = search (rules, term-word)
-
-pub pass_term-returns-then-b-eq40-2 : goal.pass_term-returns-then-b-eq40-2
-pass_term-returns-then-b-eq40-2 t c = search (rules, term-args)
-
-pub pass_term-returns : goal.pass_term-returns
-pass_term-returns t c = search (rules, term-bare)
+pub pass_args-returns-in_default-3 : goal.pass_args-returns-in_default-3
+pass_args-returns-in_default-3 t c = args_other _ _ _ _ c.pass_term.ensures c.in_ok-next.was c.byte_at.ensures.is (λ z e. omega arith) (λ z e. omega arith)

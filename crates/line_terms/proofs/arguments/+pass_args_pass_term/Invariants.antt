@@ -1,5 +1,5 @@
 -- `pass_term` and `pass_args`: the measure falls with the levels left, and with the arguments left. Assumes nothing.
-use Prim.Native.Nat.{◌*◌, ◌+◌}
+use Rattle.std.specs.Prelude.{◌*◌, ◌+◌}
 use Rattle.line_terms.proofs.arguments.+pass_args_pass_term.Given as goal
 
 abbrev pub decreases-pass_args : goal.decreases-pass_args

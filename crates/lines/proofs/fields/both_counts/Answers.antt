@@ -1,14 +1,17 @@
--- `both_counts`: one law for each way out. Assumes nothing.
-use Rattle.lines.proofs.Ways.{first_bad, second-bad, both-good}
-use borrow.Author.Rules.{rules}
-use borrow.Author.Rules.{rules}
+-- `both_counts`: both are numbers, or there are no counts. Assumes nothing.
+use Rattle.std.proofs.Common.{rules}
+use Rattle.texts.specs.Answers.{◌>>=◌}
+use Rattle.lines.specs.Fields.{both_counts}
 use Rattle.lines.proofs.fields.both_counts.Goals as goal
 
-pub returns-in-Nothing : goal.returns-in-Nothing
-returns-in-Nothing c = search (rules, first_bad, second-bad, both-good)
+pub returns-in_err-decimal : goal.returns-in_err-decimal
+unfolding both_counts ◌>>=◌
+returns-in_err-decimal c = search rules
 
-pub returns-in-Nothing-decimal : goal.returns-in-Nothing-decimal
-returns-in-Nothing-decimal c = search (rules, first_bad, second-bad, both-good)
+pub returns-in_err-decimal-2 : goal.returns-in_err-decimal-2
+unfolding both_counts ◌>>=◌
+returns-in_err-decimal-2 c = search rules
 
-pub returns-in-Value-decimal : goal.returns-in-Value-decimal
-returns-in-Value-decimal c = search (rules, first_bad, second-bad, both-good)
+pub returns : goal.returns
+unfolding both_counts ◌>>=◌
+returns c = search rules

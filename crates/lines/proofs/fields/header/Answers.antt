@@ -1,14 +1,14 @@
 -- `header`: one law for each way out. Assumes nothing.
+use Rattle.std.proofs.Common.{rules}
 use Rattle.lines.proofs.Ways.{header-count, header_other, header_read}
-use borrow.Author.Rules.{rules}
-use borrow.Author.Rules.{rules}
 use Rattle.lines.proofs.fields.header.Goals as goal
-
-pub returns-then-field_count-ne3 : goal.returns-then-field_count-ne3
-returns-then-field_count-ne3 c = search (rules, header-count, header_other, header_read)
+use Rattle.lines.proofs.fields.header.Goals.{else-field_count-eq3-via-then-field_count-eq3+else-same, else-field_count-eq3-via-else-field_count-eq3}
 
 pub returns-then-same : goal.returns-then-same
-returns-then-same c = search (rules, header-count, header_other, header_read)
+returns-then-same c = search (rules, header_read)
 
 pub returns : goal.returns
-returns c = search (rules, header-count, header_other, header_read)
+returns c = elim c.else-field_count-eq3.branch [
+  | else-field_count-eq3-via-then-field_count-eq3+else-same w ↦ search (rules, header_other)
+  | else-field_count-eq3-via-else-field_count-eq3 w ↦ search (rules, header-count)
+]

@@ -1,11 +1,7 @@
--- `misspelt_field`: one law for each way out. Assumes nothing.
-use Rattle.lines.proofs.Ways.{spelt_right, spelt-wrong}
-use borrow.Author.Rules.{rules}
-use borrow.Author.Rules.{rules}
+-- `misspelt_field`: a field is misspelt where the pass finds a wrong byte. Assumes nothing.
+use Rattle.std.proofs.Common.{rules}
+use Rattle.lines.proofs.Ways.{spelt}
 use Rattle.lines.proofs.fields.misspelt_field.Goals as goal
 
-pub returns-in-Right : goal.returns-in-Right
-returns-in-Right c = search (rules, spelt_right, spelt-wrong)
-
-pub returns-in-Wrong : goal.returns-in-Wrong
-returns-in-Wrong c = search (rules, spelt_right, spelt-wrong)
+pub returns : goal.returns
+returns c = search (rules, spelt)

@@ -1,25 +1,14 @@
--- `misspelt_in`: no field before the place is bad. Assumes nothing.
-use Rattle.lines.proofs.Loops.{gone_none, gone_more, gone_hit, gone_end, field_room}
-use borrow.Author.Rules.{rules}
+-- `misspelt_in`: the fields are the parts between the tabs. Assumes nothing.
+use Rattle.std.proofs.Common.{rules, tests}
+use Rattle.std.proofs.lemmas.Iterator.Search.{any_from_yields_List}
+use Rattle.std.proofs.lemmas.Iterator.Splits.{YieldsList-from_slice_split}
+use Rattle.texts.specs.Passes.{misspelt}
+use Rattle.lines.specs.Laws.Splits.{tab, any_field}
 use Rattle.lines.proofs.fields.misspelt_in.Goals as goal
 
-pub loop-at-init : goal.loop-at-init
-loop-at-init c = search (rules, gone_none)
-
-pub returns-then-misspelt_field : goal.returns-then-misspelt_field
-returns-then-misspelt_field c = search (rules, gone_hit)
-
-pub overflow_add-at : goal.overflow_add-at
-overflow_add-at c = search (rules, field_room)
-
-pub overflow_add-at-in-loop-at : goal.overflow_add-at-in-loop-at
-overflow_add-at-in-loop-at c = search (rules, field_room)
-
-pub loop-at-smaller : goal.loop-at-smaller
-loop-at-smaller c = search (rules, field_room)
-
-pub loop-at-preserved : goal.loop-at-preserved
-loop-at-preserved c = search (rules, gone_more)
-
 pub returns : goal.returns
-returns c = search (rules, gone_end)
+returns c =
+    any_field misspelt c.args.part.now
+    (any_from_yields_List misspelt _ _ _ c.any.ensures.ran
+    (YieldsList-from_slice_split _ tab c.args.part.now c.split.ensures.rest c.split.ensures.done c.split.ensures.closure (λ x b q k. search (rules, tests)))
+    (λ x b q k. search (rules, tests)))

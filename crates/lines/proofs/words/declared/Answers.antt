@@ -1,11 +1,7 @@
--- `declared`: one law for each way out. Assumes nothing.
-use Rattle.lines.proofs.Ways.{word-found, word-free}
-use borrow.Author.Rules.{rules}
-use borrow.Author.Rules.{rules}
+-- `declared`: a word that is found is declared. Assumes nothing.
+use Rattle.std.proofs.Common.{rules}
+use Rattle.lines.proofs.Ways.{word_known}
 use Rattle.lines.proofs.words.declared.Goals as goal
 
-pub returns-in-Nothing : goal.returns-in-Nothing
-returns-in-Nothing c = search (rules, word-found, word-free)
-
-pub returns-in-Agent : goal.returns-in-Agent
-returns-in-Agent c = search (rules, word-found, word-free)
+pub returns : goal.returns
+returns c = search (rules, word_known)

@@ -1,25 +1,16 @@
--- `stands_in`: no word before the place is the one sought. Assumes nothing.
-use Rattle.lines.proofs.Loops.{missed_none, missed_end, missed_last, missed_hit, missed_more, word-order, word_less}
-use borrow.Author.Rules.{rules}
+-- `stands_in`: the words are the pieces with some byte. Assumes nothing.
+use Rattle.std.specs.Prelude.{◌&&◌}
+use Rattle.std.proofs.Common.{rules, tests}
+use Rattle.std.proofs.lemmas.Iterator.Search.{any_from_yields_List}
+use Rattle.std.proofs.lemmas.Iterator.Splits.{YieldsList-from_slice_split}
+use Rattle.texts.specs.Bytes.{same, among}
+use Rattle.lines.specs.Laws.Splits.{gap, full, any_word}
 use Rattle.lines.proofs.words.stands_in.Goals as goal
 
-pub loop-at-init : goal.loop-at-init
-loop-at-init c = search (rules, missed_none)
-
-pub returns-then-text-from : goal.returns-then-text-from
-returns-then-text-from c = search (rules, missed_last)
-
-pub overflow_sub-to : goal.overflow_sub-to
-overflow_sub-to c = search (rules, word-order)
-
-pub returns-then-same : goal.returns-then-same
-returns-then-same c = search (rules, missed_hit)
-
-pub loop-at-smaller : goal.loop-at-smaller
-loop-at-smaller c = search (rules, word_less)
-
-pub loop-at-preserved : goal.loop-at-preserved
-loop-at-preserved c = search (rules, missed_more)
-
 pub returns : goal.returns
-returns c = search (rules, missed_end)
+unfolding among
+returns c =
+    any_word (same c.args.word.now) c.args.text.now
+    (any_from_yields_List (λ w. full w && same c.args.word.now w) _ _ _ c.any.ensures.ran
+    (YieldsList-from_slice_split _ gap c.args.text.now c.split.ensures.rest c.split.ensures.done c.split.ensures.closure (λ x b q k. search (rules, tests)))
+    (λ x b q k. search (rules, tests)))

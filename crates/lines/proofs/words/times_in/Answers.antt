@@ -1,22 +1,18 @@
--- `times_in`: n words before the place are the one sought. Assumes nothing.
-use Rattle.lines.proofs.Loops.{counted_none, counted_end, counted_last, counted_more, as_times, word-order, word_less}
-use borrow.Author.Rules.{rules}
+-- `times_in`: the words are the pieces with some byte. Assumes nothing.
+use Rattle.std.specs.Prelude.{◌&&◌}
+use Rattle.std.proofs.Common.{rules, tests}
+use Rattle.std.proofs.lemmas.Iterator.Consumers.{count_from_yields_List, YieldsList-at, YieldsList-from_filter}
+use Rattle.std.proofs.lemmas.Iterator.Splits.{YieldsList-from_slice_split}
+use Rattle.texts.specs.Bytes.{same, times}
+use Rattle.lines.specs.Laws.Splits.{gap, full, count_words}
 use Rattle.lines.proofs.words.times_in.Goals as goal
 
-pub loop-at-init : goal.loop-at-init
-loop-at-init c = search (rules, counted_none)
-
-pub returns-then-text-from : goal.returns-then-text-from
-returns-then-text-from c = search (rules, as_times, counted_last)
-
-pub overflow_sub-to : goal.overflow_sub-to
-overflow_sub-to c = search (rules, word-order)
-
-pub loop-at-smaller : goal.loop-at-smaller
-loop-at-smaller c = search (rules, word_less)
-
-pub loop-at-preserved : goal.loop-at-preserved
-loop-at-preserved c = search (rules, counted_more)
-
 pub returns : goal.returns
-returns c = search (rules, as_times, counted_end)
+unfolding times
+returns c =
+    count_words (same c.args.word.now) c.args.text.now
+    (count_from_yields_List c.filter.result _ c.count.ensures.ran
+    (YieldsList-from_filter _ (λ w. full w && same c.args.word.now w)
+    (YieldsList-at c.filter.ensures.source (YieldsList-from_slice_split _ gap c.args.text.now c.split.ensures.rest c.split.ensures.done c.split.ensures.closure (λ x b q k. search (rules, tests))))
+    c.filter.ensures.closure
+    (λ x b q k. search (rules, tests))))

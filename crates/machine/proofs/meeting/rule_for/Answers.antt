@@ -1,6 +1,6 @@
 -- `machine::meeting::rule_for` meets its contract.
 use Rattle.machine.proofs.Meetings.{rule_is}
-use borrow.Author.Rules.{rules}
+use Rattle.std.proofs.Common.{rules}
 use Rattle.machine.proofs.meeting.rule_for.Goals as goal
 
 pub returns : goal.returns

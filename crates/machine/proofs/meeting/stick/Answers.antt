@@ -1,6 +1,6 @@
 -- `machine::meeting::stick` meets its contract.
 use Rattle.machine.proofs.Meetings.{stick_room, stick_way}
-use borrow.Author.Rules.{rules}
+use Rattle.std.proofs.Common.{rules}
 use Rattle.machine.proofs.meeting.stick.Goals as goal
 
 pub put_at_head-requires : goal.put_at_head-requires

@@ -1,6 +1,6 @@
 -- `machine::picking::wire_picked` meets its contract.
 use Rattle.machine.proofs.Picks.{link-full, link-ready, link_right, linked}
-use borrow.Author.Rules.{rules}
+use Rattle.std.proofs.Common.{rules}
 use Rattle.machine.proofs.picking.wire_picked.Goals as goal
 
 pub returns-then-uncountable : goal.returns-then-uncountable

@@ -1,6 +1,6 @@
 -- `nets::whole::loose_line` meets its contract.
+use Rattle.std.proofs.Common.{rules}
 use Rattle.nets.specs.Proofs.Wholes.{loose-yes, loose_no}
-use borrow.Author.Rules.{rules}
 use Rattle.nets.proofs.whole.loose_line.Goals as goal
 
 pub returns-then-j-k : goal.returns-then-j-k

@@ -1,6 +1,6 @@
 -- `printing::leaves::put_letters` meets its contract.
 use Rattle.printing.proofs.Stores.{letters_begin, letters-stop, letters_more, letters_end}
-use borrow.Author.Rules.{rules}
+use Rattle.std.proofs.Common.{rules}
 use Rattle.printing.proofs.leaves.put_letters.Goals as goal
 
 pub loop-j-init : goal.loop-j-init

@@ -1,6 +1,6 @@
 -- `printing::leaves::put_numeral` meets its contract.
 use Rattle.printing.proofs.Stores.{one_digit, two_digits, three-digits, four-digits}
-use borrow.Author.Rules.{rules}
+use Rattle.std.proofs.Common.{rules}
 use Rattle.printing.proofs.leaves.put_numeral.Goals as goal
 
 pub returns-then-k-lt10 : goal.returns-then-k-lt10

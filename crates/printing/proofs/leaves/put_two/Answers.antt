@@ -1,6 +1,6 @@
 -- `printing::leaves::put_two` meets its contract.
 use Rattle.printing.proofs.Stores.{two_puts}
-use borrow.Author.Rules.{rules}
+use Rattle.std.proofs.Common.{rules}
 use Rattle.printing.proofs.leaves.put_two.Goals as goal
 
 pub returns : goal.returns

@@ -1,5 +1,5 @@
 -- `printing::terms::print_side`, `print_cell` and `print_sides` meet their contracts. The measure is the cells left.
-use Prim.Native.Nat.{◌+◌, ◌*◌}
+use Rattle.std.proofs.Common.{◌+◌, ◌*◌}
 use Rattle.parts.specs.Limits.{arity_max}
 use Rattle.printing.proofs.terms.+print_cell_print_side_print_sides.Given as goal
 

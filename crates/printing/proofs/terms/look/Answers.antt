@@ -1,6 +1,6 @@
 -- `printing::terms::look` meets its contract.
 use Rattle.printing.proofs.Names.{name_there, looks_name, looks_cell}
-use borrow.Author.Rules.{rules}
+use Rattle.std.proofs.Common.{rules}
 use Rattle.printing.proofs.terms.look.Goals as goal
 
 pub look_at-requires : goal.look_at-requires

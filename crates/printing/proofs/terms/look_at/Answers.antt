@@ -1,6 +1,6 @@
 -- `printing::terms::look_at` meets its contract.
 use Rattle.printing.proofs.Names.{looks_numbered, looks_bare, looks_joined, looks_tied}
-use borrow.Author.Rules.{rules}
+use Rattle.std.proofs.Common.{rules}
 use Rattle.printing.proofs.terms.look_at.Goals as goal
 
 pub returns-then-k-ne0 : goal.returns-then-k-ne0

@@ -1,7 +1,7 @@
 -- `printing::terms::name_two` meets its contract.
 use Rattle.printing.proofs.Names.{two_way}
-use borrow.Author.Rules.{rules}
+use Rattle.std.proofs.Common.{rules}
 use Rattle.printing.proofs.terms.name_two.Goals as goal
 
 pub returns : goal.returns
-returns c = search (rules, two_way)
+returns c = rw c.from.ensures (search (rules, two_way))

@@ -1,5 +1,5 @@
 -- `report::fields::put_number` meets its contract. The measure is the number.
-use borrow.Author.Rules.{rules}
+use Rattle.std.proofs.Common.{rules}
 use Rattle.report.specs.Stores.{number_one, number_more, one_fits, tenth_fits, tenth_falls, last_fits, numbers-long}
 use Rattle.report.proofs.fields.+put_number.Goals as goal
 

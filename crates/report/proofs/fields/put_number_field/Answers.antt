@@ -1,6 +1,6 @@
 -- `report::fields::put_number_field` meets its contract.
 use Rattle.report.specs.Begun.{tab-then, tab-number, tab-room}
-use borrow.Author.Rules.{rules}
+use Rattle.std.proofs.Common.{rules}
 use Rattle.report.proofs.fields.put_number_field.Goals as goal
 
 pub put_number-requires : goal.put_number-requires

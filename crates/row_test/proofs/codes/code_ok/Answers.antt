@@ -1,6 +1,6 @@
 -- `row_test::codes::code_ok` meets its contract.
 use Rattle.row_test.proofs.Coding.{code-cell, code_left, code_right, code_new}
-use borrow.Author.Rules.{rules}
+use Rattle.std.proofs.Common.{rules}
 use Rattle.row_test.proofs.codes.code_ok.Goals as goal
 
 pub returns-then-x-eq1 : goal.returns-then-x-eq1

@@ -1,17 +1,12 @@
 -- `row_test::codes::codes_ok` meets its contract.
-use borrow.Author.Rules.{rules}
-use Rattle.table.specs.Laws.Passing.{passed_none}
-use Rattle.row_test.proofs.Coding.{fit_more, fit_not, fit_end}
+use Rattle.std.proofs.Common.{rules, ◌∙◌, tests}
+use Rattle.std.proofs.lemmas.Iterator.{YieldsList-from_slice}
+use Rattle.std.proofs.lemmas.Iterator.Search.{all_from_yields_List}
+use Rattle.row_test.specs.Row.{side_fits, code_fits}
+use Rattle.row_test.proofs.Coding.{all_sides}
 use Rattle.row_test.proofs.codes.codes_ok.Goals as goal
 
-pub loop-i-init : goal.loop-i-init
-loop-i-init c = search (rules, passed_none)
-
-pub loop-i-preserved : goal.loop-i-preserved
-loop-i-preserved c = search (rules, fit_more)
-
-pub returns-else-code_ok : goal.returns-else-code_ok
-returns-else-code_ok c = search (rules, fit_not)
-
 pub returns : goal.returns
-returns c = search (rules, fit_end)
+returns c =
+    all_from_yields_List (code_fits c.args.left c.args.right c.args.names c.args.cells) _ _ _ c.all.ensures.ran (YieldsList-from_slice c.args.codes.now cc) (λ x b q k. search (rules, tests))
+    ∙ all_sides (side_fits c.args.left c.args.right c.args.names c.args.cells) c.args.codes.now

@@ -1,12 +1,7 @@
 -- `row_test::codes::put_args` meets its contract.
-use Rattle.row_test.specs.Row.{sides_max}
-use native.Mathlib.Omega.{arith}
-use Rattle.row_test.proofs.Coding.{args-room, args-stored}
-use borrow.Author.Rules.{rules}
+use Rattle.std.proofs.Common.{arith}
+use Rattle.row_test.proofs.Coding.{args-stored}
 use Rattle.row_test.proofs.codes.put_args.Goals as goal
 
-pub copy_in-requires : goal.copy_in-requires
-copy_in-requires c = let q = args-room _ _ c.args.c c.args.a c.args.at sides_max c.part.ensures c.requires.3 in omega arith
-
 pub returns : goal.returns
-returns c = search (rules, args-stored)
+returns c = let s = c in args-stored _ _ _ _ _ _ s.copy_from_slice.ensures.after s.told-row s.requires.0 s.requires.1 (omega (arith, c.told-list))

@@ -1,20 +1,32 @@
 -- `row_test::rule::sides_ok` meets its contract.
-use native.Mathlib.Omega.{arith}
-use Rattle.row_test.proofs.Verdict.{left_room, right_room, arity-read, sides_way}
+use Rattle.std.proofs.Common.{ap, arith, ◌∙◌}
+use Rattle.std.proofs.lemmas.Bool.Decides.{nat_tests}
+use Rattle.texts.specs.Coded.{arity_at}
+use Rattle.table.specs.Layout.{agents_in}
+use Rattle.row_test.specs.Row.{sides_within}
+use Rattle.row_test.proofs.Verdict.{sides-fit-are, left_room, right_room}
 use Rattle.row_test.proofs.rule.sides_ok.Goals as goal
 
 pub standing_ok-requires : goal.standing_ok-requires
-standing_ok-requires c = (c.gather-codes.ensures.1, left_room _ _ _ _ _ c.requires c.symbol_no.ensures c.arity_of.ensures c.wide-left.ensures.0)
+standing_ok-requires c = left_room _ _ _ _ _ c.args.fit.fits c.from.ensures c.arity_of.ensures c.from-left.ensures
 
-pub standing_ok-requires-2 : goal.standing_ok-requires-2
-standing_ok-requires-2 c = (c.gather-codes.ensures.1, right_room _ _ _ _ _ c.requires c.symbol_no-2.ensures c.arity_of-2.ensures c.wide-right.ensures.0)
+pub standing_ok-requires-then-standing_ok : goal.standing_ok-requires-then-standing_ok
+standing_ok-requires-then-standing_ok c = right_room _ _ _ _ _ c.args.fit.fits c.from-2.ensures c.arity_of-2.ensures c.from-right.ensures
 
-pub standing_ok-requires-3 : goal.standing_ok-requires-3
-standing_ok-requires-3 c = (c.gather-codes.ensures.1, omega (arith, c.wide-names.ensures.0, c.requires.named))
+pub returns-then-standing_ok-2 : goal.returns-then-standing_ok-2
+returns-then-standing_ok-2 c =
+    let e = sides-fit-are c.args.fit.table.now c.args.fit.row.now (sides_within c.gather-gathered.result) c.from-left.result c.from-right.result c.from-names.result c.from-cells.result
+    c.gather-gathered.ensures.0
+    (c.from-left.ensures ∙ (c.arity_of.ensures ∙ ap (arity_at (agents_in c.args.fit.table.now)) c.from.ensures))
+    (c.from-right.ensures ∙ (c.arity_of-2.ensures ∙ ap (arity_at (agents_in c.args.fit.table.now)) c.from-2.ensures))
+    c.from-names.ensures c.from-cells.ensures in
+    grind (arith, nat_tests)
 
-pub returns : goal.returns
-returns c = sides_way _ _ _ _ _ _ _ _ _ _ _ _ _ _ c.gather-codes.ensures.0
-    (arity-read _ _ _ _ _ c.wide-left.ensures.0 c.arity_of.ensures c.symbol_no.ensures)
-    (arity-read _ _ _ _ _ c.wide-right.ensures.0 c.arity_of-2.ensures c.symbol_no-2.ensures)
-    c.wide-names.ensures.0 c.wide-cells.ensures.0 c.codes_ok-fit.ensures c.standing_ok.ensures c.standing_ok-2.ensures
-    c.both-once.ensures c.both.ensures c.standing_ok-3.ensures c.both-2.ensures
+pub returns-else-standing_ok-2 : goal.returns-else-standing_ok-2
+returns-else-standing_ok-2 c =
+    let e = sides-fit-are c.args.fit.table.now c.args.fit.row.now (sides_within c.gather-gathered.result) c.from-left.result c.from-right.result c.from-names.result c.from-cells.result
+    c.gather-gathered.ensures.0
+    (c.from-left.ensures ∙ (c.arity_of.ensures ∙ ap (arity_at (agents_in c.args.fit.table.now)) c.from.ensures))
+    (c.from-right.ensures ∙ (c.arity_of-2.ensures ∙ ap (arity_at (agents_in c.args.fit.table.now)) c.from-2.ensures))
+    c.from-names.ensures c.from-cells.ensures in
+    grind (arith, nat_tests)

@@ -1,25 +1,23 @@
 -- `row_test::rule::template_ok` meets its contract.
-use Rattle.row_test.proofs.Verdict.{row_fits, template-small, template-cells, template-rest}
+use Rattle.std.proofs.Common.{ap, arith, ◌∙◌}
+use Rattle.std.proofs.lemmas.Bool.Decides.{nat_tests}
+use Rattle.table.specs.Layout.{agents_in}
+use Rattle.row_test.specs.Row.{sizes_fit}
+use Rattle.row_test.proofs.Verdict.{template-are}
 use Rattle.row_test.proofs.rule.template_ok.Goals as goal
 
-pub cells_ok-requires : goal.cells_ok-requires
-cells_ok-requires c = let s = c.requires in let f = row_fits _ c.args.row.now _ _ c.sizes_ok.ensures c.if-sizes_ok.true s.0 s.1 s.2 in (f.long, f.little)
-
-pub sides_ok-requires : goal.sides_ok-requires
-sides_ok-requires c = let s = c.requires in row_fits _ _ _ _ c.sizes_ok.ensures c.if-sizes_ok.true s.0 s.1 s.2
-
-pub walk_ok-requires : goal.walk_ok-requires
-walk_ok-requires c = let s = c.requires in row_fits _ _ _ _ c.sizes_ok.ensures c.if-sizes_ok.true s.0 s.1 s.2
-
-pub self_ok-requires : goal.self_ok-requires
-self_ok-requires c = let s = c.requires in let f = row_fits _ c.args.row.now _ _ c.sizes_ok.ensures c.if-sizes_ok.true s.0 s.1 s.2 in (f.long, f.few)
-
 pub returns-then-cells_ok : goal.returns-then-cells_ok
-returns-then-cells_ok c = template-rest _ _ _ _ c.wide-n.ensures.0 c.symbol_count.ensures _ c.sizes_ok.ensures _ c.cells_ok.ensures c.if-sizes_ok.true
-    _ _ _ _ _ c.if-cells_ok.true c.sides_ok.ensures c.walk_ok.ensures c.both.ensures c.self_ok.ensures c.both-then-cells_ok.ensures
+returns-then-cells_ok c =
+    let ags = agents_in c.args.table.now in
+    let n = c.from-n.ensures ∙ c.symbol_count.ensures in
+    let s = c.sizes_ok.ensures ∙ ap (λ i. sizes_fit i c.args.row.now) n in
+    let e = template-are ags c.args.row.now in
+    grind (arith, nat_tests)
 
-pub returns-then-sizes_ok : goal.returns-then-sizes_ok
-returns-then-sizes_ok c = template-cells _ _ _ _ c.wide-n.ensures.0 c.symbol_count.ensures _ c.sizes_ok.ensures _ c.cells_ok.ensures c.if-sizes_ok.true c.if-cells_ok.false
-
-pub returns : goal.returns
-returns c = template-small _ _ _ _ c.wide-n.ensures.0 c.symbol_count.ensures _ c.sizes_ok.ensures c.if-sizes_ok.false
+pub returns-else-cells_ok : goal.returns-else-cells_ok
+returns-else-cells_ok c =
+    let ags = agents_in c.args.table.now in
+    let n = c.from-n.ensures ∙ c.symbol_count.ensures in
+    let s = c.sizes_ok.ensures ∙ ap (λ i. sizes_fit i c.args.row.now) n in
+    let e = template-are ags c.args.row.now in
+    grind (arith, nat_tests)

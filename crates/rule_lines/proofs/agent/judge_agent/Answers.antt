@@ -1,7 +1,5 @@
 -- `rule_lines::agent::judge_agent` meets its contract: a law for each way out, and what one agent more asks for.
-use mathlib.Core.Path.{refl}
-use native.Mathlib.Omega.{arith}
-use borrow.Author.Rules.{rules}
+use Rattle.std.proofs.Common.{refl, arith, rules}
 use Rattle.rule_lines.proofs.Agents.{small, agent-big, agent-twice, agent_new}
 use Rattle.rule_lines.proofs.agent.judge_agent.Goals as goal
 

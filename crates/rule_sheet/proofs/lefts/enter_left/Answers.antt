@@ -1,5 +1,5 @@
 -- `rule_sheet::lefts::enter_left`: the loop keeps `Entering`.
-use borrow.Author.Rules.{rules}
+use Rattle.std.proofs.Common.{rules}
 use Rattle.rule_sheet.proofs.Entering.{entering_none, entering_room, entering_more, entering_end}
 use Rattle.rule_sheet.proofs.lefts.enter_left.Goals as goal
 

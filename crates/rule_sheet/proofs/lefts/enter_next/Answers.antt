@@ -1,6 +1,6 @@
 -- `rule_sheet::lefts::enter_next` meets its contract.
 use Rattle.rule_sheet.proofs.Entering.{next_more, next-free, sheet_more, sheet-free, place-order}
-use borrow.Author.Rules.{rules}
+use Rattle.std.proofs.Common.{rules}
 use Rattle.rule_sheet.proofs.lefts.enter_next.Goals as goal
 
 pub overflow_sub-to : goal.overflow_sub-to

@@ -1,7 +1,6 @@
 -- `rule_sheet::whole::coded` meets its contract.
-use mathlib.Core.Path.{refl}
+use Rattle.std.proofs.Common.{refl, rules}
 use Rattle.rule_sheet.proofs.Heading.{blank-room, some_fields, some_room, coded_asks, coded-stands}
-use borrow.Author.Rules.{rules}
 use Rattle.rule_sheet.proofs.whole.coded.Goals as goal
 
 pub enter_lefts-heads-requires : goal.enter_lefts-heads-requires

@@ -1,6 +1,6 @@
 -- `rule_sheet::whole::enter_lefts` meets its contract.
 use Rattle.rule_sheet.proofs.Heading.{second-room, lefts_in}
-use borrow.Author.Rules.{rules}
+use Rattle.std.proofs.Common.{rules}
 use Rattle.rule_sheet.proofs.whole.enter_lefts.Goals as goal
 
 pub enter_agent-right-requires : goal.enter_agent-right-requires

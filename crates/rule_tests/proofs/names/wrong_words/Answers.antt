@@ -1,25 +1,17 @@
--- `rule_tests::names::wrong_words`: no name before the place stands a wrong number of times.
-use borrow.Author.Rules.{rules}
-use Rattle.rule_tests.proofs.Loops.{missed_none, missed_end, missed_last, missed_hit, missed_more, word-order, word_less}
+-- `rule_tests::names::wrong_words`: the words are the pieces with some byte.
+use Rattle.std.specs.Prelude.{◌&&◌}
+use Rattle.std.proofs.Common.{rules, tests}
+use Rattle.std.proofs.lemmas.Iterator.Search.{any_from_yields_List}
+use Rattle.std.proofs.lemmas.Iterator.Splits.{YieldsList-from_slice_split}
+use Rattle.scan.specs.Words.{words_in}
+use Rattle.terms.specs.Agents.{agents_of}
+use Rattle.lines.specs.Laws.Splits.{gap, full, any_word}
+use Rattle.rule_tests.specs.Words.{wrong_word}
 use Rattle.rule_tests.proofs.names.wrong_words.Goals as goal
 
-pub loop-at-init : goal.loop-at-init
-loop-at-init c = search (rules, missed_none)
-
-pub returns-then-rest-from : goal.returns-then-rest-from
-returns-then-rest-from c = search (rules, missed_last)
-
-pub overflow_sub-to : goal.overflow_sub-to
-overflow_sub-to c = search (rules, word-order)
-
-pub returns-then-wrong_word : goal.returns-then-wrong_word
-returns-then-wrong_word c = search (rules, missed_hit)
-
-pub loop-at-smaller : goal.loop-at-smaller
-loop-at-smaller c = search (rules, word_less)
-
-pub loop-at-preserved : goal.loop-at-preserved
-loop-at-preserved c = search (rules, missed_more)
-
 pub returns : goal.returns
-returns c = search (rules, missed_end)
+returns c =
+    any_word (wrong_word (agents_of c.args.agents.now) (words_in c.args.left.now) (words_in c.args.right.now)) c.args.rest.now
+    (any_from_yields_List (λ w. full w && wrong_word (agents_of c.args.agents.now) (words_in c.args.left.now) (words_in c.args.right.now) w) _ _ c.any.result c.any.ensures.ran
+    (YieldsList-from_slice_split _ gap c.args.rest.now c.split.ensures.rest c.split.ensures.done c.split.ensures.closure (λ x b q k. search (rules, tests)))
+    (λ x b q k. search (rules, tests)))

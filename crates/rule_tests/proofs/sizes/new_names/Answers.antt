@@ -1,5 +1,5 @@
 -- `rule_tests::sizes::new_names`: n names before the place stand last there.
-use borrow.Author.Rules.{rules}
+use Rattle.std.proofs.Common.{rules}
 use Rattle.rule_tests.proofs.Loops.{counted_none, counted_end, counted_last, counted_more, word-order, word_less}
 use Rattle.rule_tests.proofs.sizes.new_names.Goals as goal
 
@@ -16,7 +16,9 @@ pub loop-at-smaller : goal.loop-at-smaller
 loop-at-smaller c = search (rules, word_less)
 
 pub loop-at-preserved : goal.loop-at-preserved
-loop-at-preserved c = search (rules, counted_more)
+loop-at-preserved c =
+    counted_more _ _ _ _ c.loop-at.invariant _ _ c.word_start-from.ensures c.if-right-from.false c.word_end-to.ensures _ c.part.ensures _
+    c.part-later.ensures _ c.last_new.ensures _ c.from-n.ensures
 
 pub returns : goal.returns
 returns c = search (rules, counted_end)

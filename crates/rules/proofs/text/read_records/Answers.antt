@@ -1,34 +1,39 @@
 -- `rules::text::read_records` meets its contract: the loop's invariant is `Reading`.
-use borrow.Author.Rules.{rules}
-use Rattle.rules.proofs.Reading.{reading_none, reading_end, reading_unended, end_begins, line-stands, reading_bad, end_fits, number_fits, end_less, reading_more}
+use Rattle.std.specs.Prelude.{◌≡◌, Some, None, Ok}
+use Rattle.std.proofs.Common.{rules, ap, ◌∙◌}
+use Rattle.rules.proofs.Reading.{reading_none, reading_end, reading_unended, end_begins, line-stands, reading_bad, end_fits, end_less, reading_more}
 use Rattle.rules.proofs.text.read_records.Goals as goal
 
-pub loop-end-init : goal.loop-end-init
-loop-end-init c = search (rules, reading_none)
+pub lines-init : goal.lines-init
+lines-init c = search (rules, reading_none)
 
-pub returns-in-Nothing : goal.returns-in-Nothing
-returns-in-Nothing c = search (rules, reading_end)
-
-pub returns-in-Unended : goal.returns-in-Unended
-returns-in-Unended c = search (rules, reading_unended)
+pub returns-in-Ok-None : goal.returns-in-Ok-None
+returns-in-Ok-None c =
+    let z : c.next_line.result ≡ Ok None = c.in-Ok-None.is ∙ ap Ok c.in-Ok-None.field-0-is in reading_end _ _ _ _ _ c.lines.invariant _ c.next_line.ensures z
 
 pub overflow_sub-end : goal.overflow_sub-end
-overflow_sub-end c = search (rules, end_begins)
+overflow_sub-end c =
+    let z : c.next_line.result ≡ Ok (Some c.in-Ok-Some.end) = c.in-Ok-Some.is ∙ ap Ok c.in-Ok-Some.field-0-is in end_begins _ _ _ _ _ c.lines.invariant _ c.next_line.ensures _ z
 
-pub judge_line-n-requires : goal.judge_line-n-requires
-judge_line-n-requires c = search (rules, line-stands)
+pub judge_line-requires : goal.judge_line-requires
+judge_line-requires c =
+    let z : c.next_line.result ≡ Ok (Some c.in-Ok-Some.end) = c.in-Ok-Some.is ∙ ap Ok c.in-Ok-Some.field-0-is in line-stands _ _ _ _ _ c.lines.invariant _ c.next_line.ensures _ z c.requires.0 _ c.part.ensures
 
-pub returns-then-n-ne0 : goal.returns-then-n-ne0
-returns-then-n-ne0 c = search (rules, reading_bad)
+pub returns-in-Err-judge_line : goal.returns-in-Err-judge_line
+returns-in-Err-judge_line c =
+    let z : c.next_line.result ≡ Ok (Some c.in-Ok-Some.end) = c.in-Ok-Some.is ∙ ap Ok c.in-Ok-Some.field-0-is in reading_bad _ _ _ _ _ c.lines.invariant _ c.next_line.ensures _ z _ c.part.ensures _ _ c.judge_line.ensures _ c.in-Err-judge_line.is
 
 pub overflow_add-at : goal.overflow_add-at
-overflow_add-at c = search (rules, end_fits)
+overflow_add-at c =
+    let z : c.next_line.result ≡ Ok (Some c.in-Ok-Some.end) = c.in-Ok-Some.is ∙ ap Ok c.in-Ok-Some.field-0-is in let f = end_fits _ _ _ _ _ c.lines.invariant _ c.next_line.ensures _ z c.requires.0 in search rules
 
-pub overflow_add-k : goal.overflow_add-k
-overflow_add-k c = search (rules, number_fits)
+pub lines-smaller : goal.lines-smaller
+lines-smaller c =
+    let z : c.next_line.result ≡ Ok (Some c.in-Ok-Some.end) = c.in-Ok-Some.is ∙ ap Ok c.in-Ok-Some.field-0-is in end_less _ _ _ _ _ c.lines.invariant _ c.next_line.ensures _ z c.requires.0
 
-pub loop-end-smaller : goal.loop-end-smaller
-loop-end-smaller c = search (rules, end_less)
+pub lines-preserved : goal.lines-preserved
+lines-preserved c =
+    let z : c.next_line.result ≡ Ok (Some c.in-Ok-Some.end) = c.in-Ok-Some.is ∙ ap Ok c.in-Ok-Some.field-0-is in reading_more _ _ _ _ _ c.lines.invariant _ c.next_line.ensures _ z _ c.part.ensures _ _ c.judge_line.ensures _ c.in_default.is
 
-pub loop-end-preserved : goal.loop-end-preserved
-loop-end-preserved c = search (rules, reading_more)
+pub returns-in-Err : goal.returns-in-Err
+returns-in-Err c = reading_unended _ _ _ _ _ c.lines.invariant _ c.next_line.ensures _ c.in-Err.is

@@ -4,8 +4,8 @@ use lib.ListN.{length}
 use Rattle.rules.proofs.Reading.{Reading}
 use Rattle.rules.proofs.text.read_records.Given as goal
 
-abbrev pub invariant-loop-end : goal.invariant-loop-end
-invariant-loop-end l = Reading l.text l.from l.table l.at l.k
+abbrev pub invariant-lines : goal.invariant-lines
+invariant-lines l = Reading l.text l.from l.table l.at l.k
 
-abbrev pub decreases-loop-end : goal.decreases-loop-end
-decreases-loop-end l = length l.text - l.at
+abbrev pub decreases-lines : goal.decreases-lines
+decreases-lines l = length l.text - l.at

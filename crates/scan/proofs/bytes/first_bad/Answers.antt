@@ -1,16 +1,11 @@
--- `scan::bytes::first_bad` meets its contract: the loop's invariant is `Scanned`.
-use borrow.Author.Rules.{rules}
-use Rattle.scan.proofs.Scans.{scanned_none, scanned_more, scanned_hit, scanned_end, told_not, from_front}
+-- `scan::bytes::first_bad` meets its contract: what the search found is the place.
+use Rattle.std.specs.Prelude.{not}
+use Rattle.std.proofs.Common.{rules, of_calls}
+use Rattle.texts.specs.Bytes.{allowed}
+use Rattle.scan.proofs.Scans.{place_told}
 use Rattle.scan.proofs.bytes.first_bad.Goals as goal
 
-pub loop-i-init : goal.loop-i-init
-loop-i-init c = scanned_none _ _ _
-
-pub returns-then-not-allowed : goal.returns-then-not-allowed
-returns-then-not-allowed c = search (rules, from_front, scanned_hit, told_not)
-
-pub loop-i-preserved : goal.loop-i-preserved
-loop-i-preserved c = search (rules, scanned_more, told_not)
-
 pub returns : goal.returns
-returns c = search (rules, from_front, scanned_end)
+returns c = place_told (λ b. not (allowed b)) _ _ c.first_place.ensures.within
+    (λ k h. let p = c.first_place.ensures.before k h in search (rules, of_calls))
+    (λ h. let p = c.first_place.ensures.found h in search (rules, of_calls))

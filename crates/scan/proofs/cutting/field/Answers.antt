@@ -1,5 +1,5 @@
--- `scan::cutting::field` meets its contract: the field from where field k begins is field k.
-use borrow.Author.Rules.{rules}
+-- `scan::cutting::field` meets its contract.
+use Rattle.std.proofs.Common.{rules}
 use Rattle.scan.proofs.Cuts.{start_fits, field_found}
 use Rattle.scan.proofs.cutting.field.Goals as goal
 

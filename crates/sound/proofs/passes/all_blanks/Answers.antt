@@ -1,13 +1,7 @@
 -- `sound::passes::all_blanks` meets its contract.
-use Rattle.sound.proofs.Every.{pass_start, pass_more, pass_end}
-use borrow.Author.Rules.{rules}
+use Rattle.std.proofs.Common.{rules, tests}
+use Rattle.sound.proofs.Every.{all_below}
 use Rattle.sound.proofs.passes.all_blanks.Goals as goal
 
-pub loop-c-init : goal.loop-c-init
-loop-c-init c = search (rules, pass_start)
-
-pub loop-c-preserved : goal.loop-c-preserved
-loop-c-preserved c = pass_more c.blanks.result c.both-ok.result c.loop-c.invariant c.loop-c-test.true c.blanks.ensures c.both-ok.ensures
-
 pub returns : goal.returns
-returns c = search (rules, pass_end)
+returns c = all_below _ _ c.all.ensures.ran (cc) (λ x b q k. search (rules, tests))

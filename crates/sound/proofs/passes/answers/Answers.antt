@@ -1,6 +1,6 @@
 -- `sound::passes::answers` meets its contract.
 use Rattle.sound.proofs.Ways.{answers_none, answers-name, answers-cell}
-use borrow.Author.Rules.{rules}
+use Rattle.std.proofs.Common.{rules}
 use Rattle.sound.proofs.passes.answers.Goals as goal
 
 pub returns-then-word-lt2 : goal.returns-then-word-lt2

@@ -1,14 +1,16 @@
 -- `sound::passes::blanks` meets its contract.
-use Rattle.sound.proofs.Every.{pass_start, pass_more}
-use Rattle.sound.proofs.Ways.{blanks_end}
-use borrow.Author.Rules.{rules}
+use Rattle.std.specs.Prelude.{◌||◌, not, ℕ, ◌+◌, ◌*◌, leb, eqb, get_or}
+use Rattle.std.proofs.Common.{rules, ap, ◌∙◌, tests}
+use Rattle.parts.specs.Limits.{arity_max}
+use Rattle.model.specs.Test.{every}
+use Rattle.state.specs.Layout.{view}
+use Rattle.sound.specs.Clauses.{blanks}
+use Rattle.sound.proofs.Every.{all_between}
 use Rattle.sound.proofs.passes.blanks.Goals as goal
 
-pub loop-k-init : goal.loop-k-init
-loop-k-init c = search (rules, pass_start)
-
-pub loop-k-preserved : goal.loop-k-preserved
-loop-k-preserved c = pass_more c.blanked.result c.both-ok.result c.loop-k.invariant c.loop-k-test.true c.blanked.ensures c.both-ok.ensures
-
 pub returns : goal.returns
-returns c = search (rules, blanks_end)
+unfolding blanks
+returns c =
+    let f = λ (k : ℕ). eqb (get_or (view c.args.lent.state.now).arguments (arity_max * c.args.c + k) 0) 0 in
+    all_between f c.from-n.result arity_max c.all.ensures.ran (cc) (λ x b q k. search (rules, tests))
+    ∙ ap (λ n. every arity_max (λ k. not (leb n k) || f k)) (cc)

@@ -1,7 +1,11 @@
 -- `sound::passes::sized` meets its contract.
-use Rattle.sound.proofs.Sizes.{sized_way}
-use borrow.Author.Rules.{rules}
+use Rattle.std.proofs.Common.{arith}
+use Rattle.std.proofs.lemmas.Grind.{common_steps}
+use Rattle.sound.proofs.Sizes.{counts_decide}
 use Rattle.sound.proofs.passes.sized.Goals as goal
 
-pub returns : goal.returns
-returns c = search (rules, sized_way)
+pub returns-then-from-le-FACE : goal.returns-then-from-le-FACE
+returns-then-from-le-FACE c = grind (arith, common_steps, counts_decide)
+
+pub returns-else-from-le-FACE : goal.returns-else-from-le-FACE
+returns-else-from-le-FACE c = grind (arith, common_steps, counts_decide)

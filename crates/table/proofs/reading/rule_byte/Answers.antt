@@ -1,6 +1,6 @@
 -- `table::reading::rule_byte` meets its contract.
 use Rattle.table.proofs.Laws.{rule_get}
-use borrow.Author.Rules.{rules}
+use Rattle.std.proofs.Common.{rules}
 use Rattle.table.proofs.reading.rule_byte.Goals as goal
 
 pub returns : goal.returns

@@ -1,5 +1,5 @@
 -- `table::writing::empty_table` meets its contract.
-use mathlib.Core.Path.{sym}
+use Rattle.std.proofs.Common.{sym}
 use Rattle.table.specs.Laws.Whole.{nothing-bytes}
 use Rattle.table.proofs.writing.empty_table.Goals as goal
 

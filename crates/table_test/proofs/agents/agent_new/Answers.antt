@@ -1,17 +1,16 @@
 -- `table_test::agents::agent_new` meets its contract.
-use borrow.Author.Rules.{rules}
-use Rattle.table.specs.Laws.Passing.{passed_none}
-use Rattle.table_test.proofs.Agreed.{other_more, other_hit, other_end}
+use Rattle.std.specs.Prelude.{refl}
+use Rattle.std.proofs.Common.{arith, rules, tests}
+use Rattle.std.proofs.lemmas.Iterator.{YieldsList-from_range}
+use Rattle.std.proofs.lemmas.Iterator.Search.{any_from_yields_List}
+use Rattle.texts.specs.Bytes.{same}
+use Rattle.table.specs.Layout.{agent_at}
+use Rattle.table_test.proofs.Agreed.{other-range}
 use Rattle.table_test.proofs.agents.agent_new.Goals as goal
 
-pub loop-j-init : goal.loop-j-init
-loop-j-init c = search (rules, passed_none)
-
-pub returns-then-same : goal.returns-then-same
-returns-then-same c = search (rules, other_hit)
-
-pub loop-j-preserved : goal.loop-j-preserved
-loop-j-preserved c = search (rules, other_more)
-
 pub returns : goal.returns
-returns c = search (rules, other_end)
+returns c =
+    let w = c.args.table.now in
+    other-range w c.args.s c.any.result
+    (any_from_yields_List (λ j. same (agent_at w c.args.s).symbol (agent_at w j).symbol) _ _ _ c.any.ensures.ran
+    (YieldsList-from_range 0 c.args.s c.args.s refl (omega arith)) (λ x b q k. search (rules, tests)))

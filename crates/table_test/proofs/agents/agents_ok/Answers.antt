@@ -1,21 +1,13 @@
 -- `table_test::agents::agents_ok` meets its contract.
-use borrow.Author.Rules.{rules}
-use Rattle.table.specs.Laws.Passing.{passed_none}
-use Rattle.table_test.proofs.Agreed.{agreed_more, agreed-bad, agreed_old, agreed_end}
+use Rattle.std.specs.Prelude.{refl}
+use Rattle.std.proofs.Common.{arith, rules, ◌∙◌, tests}
+use Rattle.std.proofs.lemmas.Iterator.{YieldsList-from_range}
+use Rattle.std.proofs.lemmas.Iterator.Search.{all_from_yields_List}
+use Rattle.table_test.proofs.Agreed.{Agreed, agents-range}
 use Rattle.table_test.proofs.agents.agents_ok.Goals as goal
 
-pub loop-s-init : goal.loop-s-init
-loop-s-init c = search (rules, passed_none)
-
-pub loop-s-preserved : goal.loop-s-preserved
-loop-s-preserved c = agreed_more _ _ _ _ c.symbol_count.ensures c.wide-n.ensures.0 _ _ c.loop-s.invariant c.loop-s-test.true
-    c.agent_ok.ensures c.if-agent_ok.true c.agent_new.ensures c.if-agent_new.true
-
-pub returns-else-agent_new : goal.returns-else-agent_new
-returns-else-agent_new c = search (rules, agreed_old)
-
-pub returns-else-agent_ok : goal.returns-else-agent_ok
-returns-else-agent_ok c = search (rules, agreed-bad)
-
 pub returns : goal.returns
-returns c = search (rules, agreed_end)
+returns c =
+    agents-range c.args.table.now c.from.result c.all.result (c.from.ensures ∙ c.symbol_count.ensures)
+    (all_from_yields_List (Agreed c.args.table.now) _ _ _ c.all.ensures.ran
+    (YieldsList-from_range 0 c.from.result c.from.result refl (omega arith)) (λ x b q k. search (rules, tests)))

@@ -1,10 +1,10 @@
 -- `table_test::agents::letters` meets its contract.
+use Rattle.std.specs.Prelude.{refl}
 use Rattle.table_test.proofs.Agreed.{letters-fit, letters_way}
-use borrow.Author.Rules.{rules}
 use Rattle.table_test.proofs.agents.letters.Goals as goal
 
-pub part-requires : goal.part-requires
-part-requires c = search (rules, letters-fit)
+pub slice_bounds-result-end : goal.slice_bounds-result-end
+slice_bounds-result-end c = letters-fit _ _ c.word_len.ensures
 
 pub returns : goal.returns
-returns c = search (rules, letters_way)
+returns c = letters_way c.args.table.now _ c.args.s c.word_len.result refl c.word_len.ensures

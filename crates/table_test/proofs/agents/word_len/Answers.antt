@@ -1,16 +1,13 @@
 -- `table_test::agents::word_len` meets its contract.
-use borrow.Author.Rules.{rules}
-use Rattle.table_test.proofs.Agreed.{spelling_none, spelling_more, spelling_hit, spelling_end}
+use Rattle.std.specs.Prelude.{eqb}
+use Rattle.std.proofs.Common.{rules, tests}
+use Rattle.std.proofs.lemmas.Iterator.{YieldsList-from_slice}
+use Rattle.std.proofs.lemmas.Iterator.Search.{position_from_yields_List}
+use Rattle.table_test.proofs.Agreed.{first_zero}
 use Rattle.table_test.proofs.agents.word_len.Goals as goal
 
-pub loop-i-init : goal.loop-i-init
-loop-i-init c = search (rules, spelling_none)
-
-pub returns-then-row-i-eq0 : goal.returns-then-row-i-eq0
-returns-then-row-i-eq0 c = search (rules, spelling_hit)
-
-pub loop-i-preserved : goal.loop-i-preserved
-loop-i-preserved c = search (rules, spelling_more)
-
 pub returns : goal.returns
-returns c = search (rules, spelling_end)
+returns c =
+    first_zero c.args.row.now
+    (position_from_yields_List (λ b. eqb b 0) _ _ _ c.position.ensures.ran (YieldsList-from_slice c.args.row.now cc) (λ x b q k. search (rules, tests)))
+    c.unwrap_or.ensures
