@@ -152,6 +152,7 @@ fn all_met(state: &[u16; Limits::STATE], seen: &[u8; Limits::CELLS]) -> bool
 }
 
 // "every cell in use is reached exactly once from interface, ties, waiting and stuck"
+// `Sizes` stays a clause: it is what a test before this one found of the same state.
 pub fn reached(lent: Lent) -> bool
     requires { Sizes (view lent.state.now) }
     ensures { result ≡ reached (under lent.entry.table.bytes.now) (view lent.entry.state.now) }

@@ -55,6 +55,7 @@ fn bound_once(state: &[u16; Limits::STATE], x: usize) -> usize
     usize::from(read(state, Part::Names, x) >= 2)
 }
 
+// `Sizes` stays a clause: it is what a test before this one found of the same state.
 fn occurrences(lent: Lent, x: usize) -> usize
     requires { Sizes (view lent.state.now) × (x < names_max) }
     ensures { result ≡ occurring (under lent.entry.table.bytes.now) (view lent.entry.state.now) x }

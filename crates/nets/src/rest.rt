@@ -15,6 +15,7 @@ use scan::cutting::next_line;
 use terms::{Source, sheet};
 
 // The line that begins at `at`, after f interface terms and k equations: where the one after it begins, or None where no line is left.
+// That the interface is small enough stays a clause here and in crates/net_lines: it bounds one number, from which the place of the next code is told.
 fn one_eq(
     source: Source<'_>,
     at: usize,

@@ -77,6 +77,7 @@ fn kept_side(table: &[u8; Limits::TABLE], row: &[u8; Limits::RULE], p: usize) ->
 }
 
 // The same among the cells: 0 past the last of them, and past the arguments of each.
+// That the agents are few enough stays a clause, here and in crates/row_test: the table is one that is being tested or built.
 fn kept_node(table: &[u8; Limits::TABLE], row: &[u8; Limits::RULE], p: usize) -> u8
     requires { (length (agents_in table.now) ≤ symbols_max) × (nodes_in ≤ p) × (p < rule_size) }
     ensures { result ≡ get_or (rule_bytes (entry_of (agents_in table.now) row.now)) p 0 }

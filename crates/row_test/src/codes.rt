@@ -22,6 +22,7 @@ pub struct Codes {
 }
 
 // How many arguments cell c has.
+// That the agents are few enough stays a clause: the table is one that is being tested.
 pub fn cell_arity(table: &[u8; Limits::TABLE], row: &[u8; Limits::RULE], c: usize) -> usize
     requires { (length (agents_in table.now) ≤ symbols_max) × (c < rule_cells_max) }
     ensures { result ≡ arity_at (agents_in table.now) (symbol_of row.now c) }

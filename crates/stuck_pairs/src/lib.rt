@@ -57,6 +57,7 @@ fn held(lent: Lent, k: u16) -> bool
 }
 
 // "no stuck pair has a rule"
+// `Sizes` stays a clause: it is what a test before this one found of the same state.
 pub fn unruled(lent: Lent) -> bool
     requires { Symbols (view lent.state.now) × Sizes (view lent.state.now) }
     ensures { result ≡ unruled (under lent.entry.table.bytes.now).rules (mem_of (under lent.entry.table.bytes.now) (view lent.entry.state.now)) (listed (view lent.entry.state.now).stuck) }
