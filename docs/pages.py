@@ -34,13 +34,20 @@ HIDDEN = {
         "review/proofs/Demand1.step_16",
         "review/proofs/Demand1.step_12",
         "review/proofs/Demand1.step_13",
+        "review/proofs/Demand1.step_no_other",
         "review/proofs/Demand2.step-made",
     ],
-    "review/Promises.RunCall": ["review/proofs/Demand1.run_16", "review/proofs/Demand1.run_17", "review/proofs/Demand2.run_is"],
+    "review/Promises.RunCall": [
+        "review/proofs/Demand1.run_16",
+        "review/proofs/Demand1.run_17",
+        "review/proofs/Demand1.run_no_other",
+        "review/proofs/Demand2.run_is",
+    ],
     "review/Promises.AnswerCall": [
         "review/proofs/Demand1.answer_16",
         "review/proofs/Demand1.answer_14",
         "review/proofs/Demand1.answer_15",
+        "review/proofs/Demand1.answer_no_other",
         "review/proofs/Demand2.answer-read",
     ],
     "review/Promises.EmptyState": ["review/proofs/Answered.empty-state_is"],
@@ -174,15 +181,24 @@ class Page:
             for module, last in self.imports.get(alias, []):
                 places.append((module, last))
         for module, name in places:
-            target = self.pages.get(page_key(module))
+            key = page_key(module)
+            target = self.pages.get(key)
             if target:
                 yield from target.find(name)
+            elif key and is_ours(key):
+                sys.exit(f"pages.py: {self.key} takes {name} from {module}, and that page was not read")
 
 
 def page_key(module):
     """`Rattle.texts.specs.Books` is the page texts/Books, and `Rattle.texts.proofs.Main` is texts/proofs/Main."""
     found = re.match(r"Rattle\.([^.]+)\.(specs|proofs)\.(.+)$", module)
     return found and f"{found.group(1)}/{'proofs/' if found.group(2) == 'proofs' else ''}{found.group(3).replace('.', '/')}"
+
+
+def is_ours(key):
+    """Whether a page is one of this repository's files, and not one that the check makes of its code."""
+    crate, _, inner = key.partition("/")
+    return os.path.isdir(os.path.join(ROOT, crate)) and not inner.startswith(("declared/", "contracts/"))
 
 
 def read_pages():
@@ -192,7 +208,7 @@ def read_pages():
             top = os.path.join(ROOT, crate, part)
             for folder, _, files in os.walk(top):
                 for file in files:
-                    if file.endswith(".antt") and file not in ("Answers.antt", "Invariants.antt"):
+                    if file.endswith(".antt") and not (part == "proofs" and file in ("Answers.antt", "Invariants.antt")):
                         path = os.path.join(folder, file)
                         page = Page(pages, crate, before + os.path.relpath(path, top)[:-5], path)
                         pages[page.key] = page

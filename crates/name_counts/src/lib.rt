@@ -15,7 +15,20 @@ use sound::passes::{live, width_of};
 use sound::usable::Lent;
 use state::{Part, Pile, count, part_words, read};
 
-// How often name x stands among n words of a part.
+// How often name x stands among the n words of a list. A list may be long, so this is a loop over its places: it is made into vector code, and a
+// chain is not.
+fn times_listed(state: &[u16; Limits::STATE], p: Part, n: usize, x: usize) -> usize
+    requires { (x < names_max) × (n ≤ size p) }
+    ensures { Found result (total n (mark x (words p (view state.now)) 0)) n }
+{
+    let mut found = 0;
+    for i in 0..n {
+        found += usize::from(usize::from(read(state, p, i)) == 2 * x);
+    }
+    found
+}
+
+// The same among n words from a place on, as the arguments of a cell: four at most, where the chain is shorter than the loop.
 fn times_in(state: &[u16; Limits::STATE], p: Part, from: usize, n: usize, x: usize) -> usize
     requires { (x < names_max) × (from + n ≤ size p) }
     ensures { Found result (total n (mark x (words p (view state.now)) from)) n }
@@ -42,6 +55,11 @@ fn times_in_cells(lent: Lent, x: usize) -> usize
     // A loop, and no `map(..).sum()`: that asks for a bound of the sum of what the map yields, which no law here gives.
     let mut found = 0;
     for c in 0..Limits::CELLS {
+        // A cell with no arguments, as one that is not in use, is passed by at once: there are many, and each is looked at for each name.
+        let n = width_of(lent.table, read(lent.state, Part::Symbols, c));
+        if n == 0 {
+            continue;
+        }
         found += times_inside(lent, c, x);
     }
     found
@@ -63,9 +81,9 @@ fn occurrences(lent: Lent, x: usize) -> usize
     let faces = usize::from(count(lent.state, Pile::Faces));
     let waits = 2 * usize::from(count(lent.state, Pile::Waits));
     let stucks = 2 * usize::from(count(lent.state, Pile::Stucks));
-    let face = times_in(lent.state, Part::Face, 0, faces, x);
-    let waiting = times_in(lent.state, Part::Waiting, 0, waits, x);
-    let stuck = times_in(lent.state, Part::Stuck, 0, stucks, x);
+    let face = times_listed(lent.state, Part::Face, faces, x);
+    let waiting = times_listed(lent.state, Part::Waiting, waits, x);
+    let stuck = times_listed(lent.state, Part::Stuck, stucks, x);
     let tied = bound_once(lent.state, x);
     let cells = times_in_cells(lent, x);
     face + (waiting + (stuck + (tied + cells)))

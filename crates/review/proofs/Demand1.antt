@@ -24,10 +24,11 @@
 --
 -- That each call has an answer, and only one, stands in Answered.
 use Rattle.parts.specs.declared.faults.Fault.TheVariants as Why
-use Rattle.std.specs.Prelude.{◌≤◌, ◌<◌, ◌≡◌, ◌↔◌, Err}
-use Rattle.review.specs.Words.{ℕ, List, length, budget_max, picked, NoRoom, view, under, BothSound}
+use Rattle.std.specs.Prelude.{◌≤◌, ◌<◌, ◌≡◌, ◌↔◌, ◌⊎◌, Err}
+use Rattle.review.specs.Words.{ℕ, List, Fault, length, budget_max, picked, NoRoom, view, under, BothSound}
 use Rattle.review.specs.Promises.{StateArray, StepCall, RunCall, AnswerCall, lines_of_net}
 use Rattle.review.proofs.Beneath.Calls.{step_unsound, step_no_pick, step_no_room, run_unsound, run_too_much, answer_unsound, answer-waits, answer-long}
+use Rattle.review.proofs.Beneath.Calls as Calls
 
 -- STEP. "16 first, then [..] 12, [..] 13". "A refused call changes no byte it was lent." (`step-made` in Demand2 says when a
 -- step is made, and what it is.)
@@ -73,3 +74,16 @@ module _ {w v o o' : List ℕ} where
   pub answer_15 : AnswerCall w v o (Err Why.LongAnswer) o'
       ↔ ((h : BothSound w v) × ((view v).waiting.used ≡ 0) × (length o < length (lines_of_net h)) × (o' ≡ o))
   answer_15 = answer-long
+
+-- And no other refusal: what these calls refuse, they refuse by one of the numbers above.
+pub step_no_other : {w v v' : List ℕ} {p : ℕ} {f : Fault} → StepCall w v p (Err f) v'
+    → (f ≡ Why.Unsound) ⊎ ((f ≡ Why.NoPick) ⊎ (f ≡ Why.NoRoom))
+step_no_other = Calls.step_no_other
+
+pub run_no_other : {w v v' : List ℕ} {budget : ℕ} {f : Fault} → RunCall w v budget (Err f) v'
+    → (f ≡ Why.Unsound) ⊎ (f ≡ Why.LargeBudget)
+run_no_other = Calls.run_no_other
+
+pub answer_no_other : {w v o o' : List ℕ} {f : Fault} → AnswerCall w v o (Err f) o'
+    → (f ≡ Why.Unsound) ⊎ ((f ≡ Why.Waits) ⊎ (f ≡ Why.LongAnswer))
+answer_no_other = Calls.answer_no_other

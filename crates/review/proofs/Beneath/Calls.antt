@@ -1,5 +1,5 @@
 -- Each refusal of step, run and the reader of the end, and each step that is made: with what is left, exactly.
-use Rattle.std.specs.Prelude.{ℕ, ◌≤◌, ◌<◌, ◌≡◌, refl, List, ◌↔◌, length, Ok, Err}
+use Rattle.std.specs.Prelude.{ℕ, ◌≤◌, ◌<◌, ◌≡◌, refl, List, ◌↔◌, ◌⊎◌, length, Ok, Err}
 use Rattle.std.proofs.Common.{sym, ap, ◌∙◌, inl, inr}
 use Rattle.parts.specs.Limits.{budget_max}
 use Rattle.model.specs.Step.{place, taken_out, picked}
@@ -9,12 +9,13 @@ use Rattle.state.specs.Layout.{view}
 use Rattle.sound.specs.Lent.{under}
 use Rattle.lent.specs.Both.{BothSound, sound-state}
 use Rattle.machine.specs.Calls.{out, answered, step_told, run_told}
+use Rattle.parts.specs.declared.faults.Fault.{Fault}
 use Rattle.parts.specs.declared.faults.Fault.TheVariants as Why
 use Rattle.review.specs.Answers.{StepAnswer, RunAnswer, EndAnswer}
 use Rattle.answer.specs.Called.{given, end_told}
 use Rattle.review.specs.Promises.{StateArray, StepCall, RunCall, AnswerCall, lines_of_net}
 use Rattle.review.proofs.Beneath.Exist.{same_state}
-use Rattle.review.proofs.Beneath.Steps.{StepIf, if_unsound, if_no_pick, if_no_room, step-asked, step_comes, step_leaves, step_exactly, step_left, step_went, step_row, RunIf, if_run_unsound, if_too_much, run_comes, run_leaves, run_exactly, run-kept}
+use Rattle.review.proofs.Beneath.Steps.{StepIf, if_unsound, if_no_pick, if_no_room, if_step_refused, step-asked, step_comes, step_leaves, step_exactly, step_left, step_went, step_row, RunIf, if_run_unsound, if_too_much, if_run_refused, run_comes, run_leaves, run_exactly, run-kept}
 use Rattle.review.proofs.Beneath.Reads.{AnswerIf, answer_leaves, answer_comes, answer_exactly, answer-kept}
 use Rattle.review.proofs.Beneath.Reads as Reads
 
@@ -104,3 +105,16 @@ module _ {w v o o' : List ℕ} where
     λ c. let i = Reads.if_long w v o ((answer_exactly c (Err Why.LongAnswer)).0 refl) in (i.0, i.1, i.2, answer-kept c refl),
     λ (h, z, b, e). answer_back refl (AnswerIf.long (h, z, b)) e,
   )
+
+-- A call that is refused is refused by one of its own numbers.
+pub step_no_other : {w v v' : List ℕ} {p : ℕ} {f : Fault} → StepCall w v p (Err f) v'
+    → (f ≡ Why.Unsound) ⊎ ((f ≡ Why.NoPick) ⊎ (f ≡ Why.NoRoom))
+step_no_other {w} {v} {p = p} {f = f} c = if_step_refused w v p ((step_exactly c (Err f)).0 refl)
+
+pub run_no_other : {w v v' : List ℕ} {budget : ℕ} {f : Fault} → RunCall w v budget (Err f) v'
+    → (f ≡ Why.Unsound) ⊎ (f ≡ Why.LargeBudget)
+run_no_other {w} {v} {budget = budget} {f = f} c = if_run_refused w v budget ((run_exactly c (Err f)).0 refl)
+
+pub answer_no_other : {w v o o' : List ℕ} {f : Fault} → AnswerCall w v o (Err f) o'
+    → (f ≡ Why.Unsound) ⊎ ((f ≡ Why.Waits) ⊎ (f ≡ Why.LongAnswer))
+answer_no_other {w} {v} {o} {f = f} c = Reads.if_answer_refused w v o ((answer_exactly c (Err f)).0 refl)

@@ -47,6 +47,12 @@ module _ (w v o : List ℕ) where
   pub if_reads : {e : End} → AnswerIf (Ok e) → Printed w v o e.length e.loops e.stuck e.knot (called w v o).out
   if_reads (AnswerIf.reads e h) = h
 
+  -- No other refusal comes.
+  pub if_answer_refused : {f : Fault} → AnswerIf (Err f) → (f ≡ Why.Unsound) ⊎ ((f ≡ Why.Waits) ⊎ (f ≡ Why.LongAnswer))
+  if_answer_refused (AnswerIf.unsound h) = inl refl
+  if_answer_refused (AnswerIf.waits h) = inr (inl refl)
+  if_answer_refused (AnswerIf.long h) = inr (inr refl)
+
   abbrev pub answer_leaves : EndAnswer → List ℕ
   answer_leaves (Ok e) = (called w v o).out
   answer_leaves (Err f) = o

@@ -91,6 +91,12 @@ module _ (w v : List ℕ) (p : ℕ) where
   pub if_moves : StepIf (Ok tt) → Made
   if_moves (StepIf.moves h) = h
 
+  -- No other refusal comes.
+  pub if_step_refused : {f : Fault} → StepIf (Err f) → (f ≡ Why.Unsound) ⊎ ((f ≡ Why.NoPick) ⊎ (f ≡ Why.NoRoom))
+  if_step_refused (StepIf.unsound h) = inl refl
+  if_step_refused (StepIf.no_pick h) = inr (inl refl)
+  if_step_refused (StepIf.no_room h) = inr (inr refl)
+
   -- What is left: a refused step leaves the state as it was.
   abbrev state_of : Answer → St
   state_of (moved s) = s
@@ -212,6 +218,10 @@ module _ (w v : List ℕ) (budget : ℕ) where
   pub if_refused : {f : Fault} → RunIf (Err f) → (◌≡◌ {A = RunAnswer} (Err f) (Err Why.Unsound)) ⊎ (◌≡◌ {A = RunAnswer} (Err f) (Err Why.LargeBudget))
   if_refused (RunIf.unsound h) = inl refl
   if_refused (RunIf.too_much h) = inr refl
+
+  pub if_run_refused : {f : Fault} → RunIf (Err f) → (f ≡ Why.Unsound) ⊎ (f ≡ Why.LargeBudget)
+  if_run_refused (RunIf.unsound h) = inl refl
+  if_run_refused (RunIf.too_much h) = inr refl
 
   abbrev pub run_leaves : RunAnswer → St
   run_leaves (Err f) = view v
